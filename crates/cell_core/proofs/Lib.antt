@@ -1,0 +1,3 @@
+pub mod CellOrder
+pub mod Members
+pub mod SchemaLemmas

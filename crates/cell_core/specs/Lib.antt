@@ -1,0 +1,4 @@
+pub mod Cells
+pub mod RawData
+pub mod RawViews
+pub mod Schemas

@@ -1,0 +1,87 @@
+use plain_data::Text;
+use sqlite_items::Items;
+use std::collections::BTreeMap;
+
+/// A JSON value (RFC 8259) that is judged later. A number that is no whole number of 64 bits with
+/// a sign is only marked, and in an object no name stands twice.
+#[cycle(raw)]
+#[derive(Drop)]
+pub enum Raw {
+    Null,
+    Bool(bool),
+    Int(i64),
+    OtherNumber,
+    Words(Text),
+    List(RawList),
+    Map(RawMap),
+}
+
+/// The items of a JSON array.
+#[cycle(raw)]
+#[derive(Drop)]
+pub struct RawList {
+    items: Items<Raw>,
+}
+
+/// The members of a JSON object, ascending by name. No name stands twice.
+#[cycle(raw)]
+#[derive(Drop)]
+pub struct RawMap {
+    entries: BTreeMap<Text, Raw>,
+}
+
+impl RawList {
+    ghost use Rattle.std.specs.Prelude.{◌≡◌, map};
+    ghost use Rattle.cell_core.specs.RawViews.{raw_view, items_of, list_view};
+
+    /// The array of a list, with no copy made.
+    pub fn from_items(items: Items<Raw>) -> RawList
+        ensures { list_view result ≡ items_of (map raw_view items) }
+    {
+        RawList { items }
+    }
+
+    pub fn as_slice(&self) -> &[Raw]
+        ensures { items_of (map raw_view result.now) ≡ list_view self.now }
+    {
+        self.items.as_slice()
+    }
+}
+
+impl RawMap {
+    ghost use Rattle.std.specs.Prelude.{◌≡◌, map, option_map};
+    ghost use Rattle.cell_core.specs.RawData.{get_raw};
+    ghost use Rattle.cell_core.specs.RawViews.{raw_view, members_of, map_view};
+
+    /// The object of a map, with no copy made.
+    pub fn from_entries(entries: BTreeMap<Text, Raw>) -> RawMap
+        ensures { map_view result ≡ members_of (map (λ m. (m.0, raw_view m.1)) entries.entries) }
+    {
+        RawMap { entries }
+    }
+
+    pub fn entries(&self) -> &BTreeMap<Text, Raw>
+        ensures { members_of (map (λ m. (m.0, raw_view m.1)) result.now.entries)
+            ≡ map_view self.now }
+    {
+        &self.entries
+    }
+
+    /// The value under a name.
+    pub fn get(&self, name: &Text) -> Option<&Raw>
+        ensures { option_map (λ r. raw_view r.now) result ≡ get_raw name.now (map_view self.now) }
+    {
+        found(&self.entries, name)
+    }
+}
+
+ghost use Rattle.std.specs.Prelude.{◌≡◌, map, option_map};
+ghost use Rattle.cell_core.specs.RawData.{get_raw};
+ghost use Rattle.cell_core.specs.RawViews.{raw_view, members_of};
+
+fn found<'m>(entries: &'m BTreeMap<Text, Raw>, name: &Text) -> Option<&'m Raw>
+    ensures { option_map (λ r. raw_view r.now) result
+        ≡ get_raw name.now (members_of (map (λ m. (m.0, raw_view m.1)) entries.now.entries)) }
+{
+    entries.get(name)
+}
