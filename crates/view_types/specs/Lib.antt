@@ -1,0 +1,4 @@
+pub mod Cells
+pub mod Distinct
+pub mod Keys
+pub mod Types

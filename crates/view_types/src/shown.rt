@@ -1,0 +1,162 @@
+ghost use Rattle.std.specs.Prelude.{◌≡◌, ◌∷◌, ◌++◌, [], length, map, IfOk, OnOk, OnErr};
+ghost use Rattle.std.specs.BTreeMap.{insert_entry};
+ghost use Rattle.std.specs.Cmp.Lexicographic.{slice_cmp};
+ghost use Rattle.std.specs.List.Sorted.{IsStrictlySortedBy};
+ghost use Rattle.std.specs.Map.{keys_of};
+ghost use Rattle.std.specs.Ordering.{nat_cmp};
+ghost use Rattle.view_types.specs.Cells.{put_cell};
+ghost use Rattle.view_types.specs.Distinct.{AreDistinct};
+
+use crate::key::ViewKey;
+use cell_core::{CellType, Listed, Memory, Text, Value};
+use std::alloc::Global;
+use std::collections::BTreeMap;
+use std::marker::Model;
+
+/// The type of a shown column: a column's type, or the type of a mean.
+#[derive(Clone, Copy, Debug, Drop, PartialEq, Eq)]
+pub enum ShownType {
+    Integer,
+    Boolean,
+    Date,
+    Moment,
+    Words,
+    Fraction,
+}
+
+/// A shown column: its text, and the type of its values.
+#[derive(Debug, Drop)]
+pub struct HeaderColumn {
+    pub text: Text,
+    pub kind: ShownType,
+}
+
+pub type Header = Listed<HeaderColumn>;
+
+/// The values of a shown row, each under its column's text. Null values are left out.
+#[derive(Debug, Drop)]
+pub struct ShownCells {
+    entries: BTreeMap<Text, Value>,
+}
+
+impl Model for ShownCells {
+    ghost use Rattle.std.specs.Prelude.{List, ℕ};
+    ghost use Rattle.value_core.specs.declared.value.Value.{Value as ShownValue};
+
+    ghost Value = { List (List ℕ × ShownValue) };
+
+    ghost view = { λ c. c.entries.entries };
+}
+
+impl ShownCells {
+    pub fn new(alloc: Global) -> ShownCells
+        ensures { result ≡ [] }
+    {
+        ShownCells {
+            entries: BTreeMap::new(alloc),
+        }
+    }
+
+    /// Puts the value under a column's text, in place of the one there.
+    pub fn put(&mut self, column: Text, value: Value) -> Result<(), Memory>
+        ensures ok { OnOk result (self.new ≡ put_cell self.old column value) }
+        ensures err { OnErr result (self.new ≡ self.old) }
+    {
+        drop(self.entries.insert(column, value)?);
+        Ok(())
+    }
+
+    /// The values, ascending by column text.
+    pub fn entries(&self) -> &BTreeMap<Text, Value>
+        ensures { result.now.entries ≡ self.now }
+    {
+        &self.entries
+    }
+
+    /// The number of values.
+    pub fn len(&self) -> usize
+        ensures count { result ≡ length self.now }
+        ensures ascending { IsStrictlySortedBy (slice_cmp nat_cmp) (keys_of self.now) }
+    {
+        self.entries.len()
+    }
+}
+
+/// A row of a view.
+#[derive(Debug, Drop)]
+pub struct ShownRow {
+    pub key: ViewKey,
+    /// Whether it is a group that is open.
+    pub mark: bool,
+    pub cells: ShownCells,
+}
+
+/// Rows in the order in which they are shown. No key stands twice.
+#[derive(Debug, Drop)]
+pub struct ShownRows {
+    rows: Listed<ShownRow>,
+}
+
+impl Model for ShownRows {
+    ghost use Rattle.std.specs.Prelude.{List, map};
+    ghost use Rattle.view_types.specs.declared.shown.ShownRow.{ShownRow};
+    ghost use Rattle.view_types.specs.Distinct.{AreDistinct};
+
+    ghost Value = { List ShownRow };
+
+    ghost view = { λ s. s.rows };
+
+    ghost invariant = { λ s. AreDistinct (map (λ r. r.key) s.rows) };
+}
+
+impl ShownRows {
+    pub fn from_listed(rows: Listed<ShownRow>) -> ShownRows
+        requires { AreDistinct (map (λ r. r.key) rows) }
+        ensures { result ≡ rows }
+    {
+        ShownRows { rows }
+    }
+
+    pub fn as_slice(&self) -> &[ShownRow]
+        ensures rows { result.now ≡ self.now }
+        ensures distinct { AreDistinct (map (λ r. r.key) self.now) }
+    {
+        self.rows.as_slice()
+    }
+}
+
+/// What a view shows.
+#[derive(Debug, Drop)]
+pub struct Shown {
+    pub header: Header,
+    pub rows: ShownRows,
+}
+
+impl ShownType {
+    ghost use Rattle.view_types.specs.Types.{shown_type, shown_type_name};
+
+    pub fn of(kind: CellType) -> ShownType
+        ensures { result ≡ shown_type kind }
+    {
+        match kind {
+            CellType::Integer => ShownType::Integer,
+            CellType::Boolean => ShownType::Boolean,
+            CellType::Date => ShownType::Date,
+            CellType::Moment => ShownType::Moment,
+            CellType::Words => ShownType::Words,
+        }
+    }
+
+    pub fn name(self) -> &'static str
+        ensures { result.now ≡ shown_type_name self }
+    {
+        match self {
+            ShownType::Integer => "integer",
+            ShownType::Boolean => "boolean",
+            ShownType::Date => "date",
+            ShownType::Moment => "datetime",
+            ShownType::Words => "string",
+            ShownType::Fraction => "fraction",
+        }
+    }
+}
