@@ -1,0 +1,5 @@
+pub mod Reduced
+pub mod Fractions
+pub mod FractionLaws
+pub mod Values
+pub mod ValueLaws

@@ -3,24 +3,10 @@
 //! It stands on `plain_data`.
 #![tactic(auto)]
 
-use plain_data::Text;
+mod fraction;
+mod laws;
+mod value;
 
-/// A fraction in its lowest terms.
-#[derive(Clone, Copy, Debug)]
-pub struct Fraction {
-    pub n: i128,
-    pub d: i128,
-}
-
-/// A value that isn't null.
-#[derive(Debug, Drop)]
-pub enum Value {
-    Bool(bool),
-    Whole(i128),
-    Fraction(Fraction),
-    /// Days since 1970-01-01.
-    Date(i32),
-    /// Milliseconds since 1970-01-01T00:00:00Z.
-    Moment(i64),
-    Words(Text),
-}
+pub use fraction::Fraction;
+pub use laws::{fractions_are_ordered, lowest_form_is_one, values_are_ordered};
+pub use value::Value;
