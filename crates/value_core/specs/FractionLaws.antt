@@ -1,5 +1,5 @@
 -- Laws of fractions: a fraction has one lowest form, and fractions have one strict total order.
-use Rattle.std.specs.Prelude.{◌≡◌, ℕ, ◌+◌, ◌*◌, ◌<◌, ◌≤◌, Bool, true, ℤ, pos, negsuc, ◌*ℤ◌, ◌≤ℤ◌, ◌<ℤ◌}
+use Rattle.std.specs.Prelude.{◌≡◌, ℕ, ◌+◌, ◌*◌, ◌<◌, ◌≤◌, ◌&&◌, ℤ, pos, negsuc, ◌*ℤ◌, ◌≤ℤ◌, ◌<ℤ◌}
 use Rattle.std.specs.declared.cmp.Ordering.{Ordering}
 use Rattle.std.specs.declared.cmp.Ordering.TheVariants.{Less, Equal, Greater}
 use Rattle.std.specs.Cmp.{IsTotalOrder, int_cmp_total, int_ranked, int_cmp_is, signed_Decides, both_ways, Equal-is, tied_itself, first_so, second_so}
@@ -39,6 +39,15 @@ times_cancel a b d h e =
     (λ m. let t = times_less b a d h m in absurd (omega (arith, ints)))
     (λ m. omega (arith, ints)))
 
+times_pos : (a : ℤ) (k : ℕ) → up (a *ℤ pos k) + down a * k ≡ up a * k + down (a *ℤ pos k)
+times_pos a k = omega (arith, ints)
+
+times_swap : (a : ℤ) (p q : ℕ) → (a *ℤ pos p) *ℤ pos q ≡ (a *ℤ pos q) *ℤ pos p
+times_swap a p q =
+    let first : (up (a *ℤ pos p) + down a * p) * q ≡ (up a * p + down (a *ℤ pos p)) * q = ap (λ x. x * q) (times_pos a p) in
+    let second : (up (a *ℤ pos q) + down a * q) * p ≡ (up a * q + down (a *ℤ pos q)) * p = ap (λ x. x * p) (times_pos a q) in
+    omega (arith, ints)
+
 -- where a / p is below b / q, and that below c / r, the first is below the last
 pub ratio_chain : (a p b q c r : ℤ) → pos 1 ≤ℤ p → pos 1 ≤ℤ q → pos 1 ≤ℤ r → (a *ℤ q) <ℤ (b *ℤ p) → (b *ℤ r) <ℤ (c *ℤ q) → (a *ℤ r) <ℤ (c *ℤ p)
 ratio_chain a (pos p) b (pos q) c (pos r) p1 q1 r1 h k =
@@ -46,7 +55,7 @@ ratio_chain a (pos p) b (pos q) c (pos r) p1 q1 r1 h k =
     let above = times_less (b *ℤ pos r) (c *ℤ pos q) (pos p) p1 k in
     by_lt_z (a *ℤ pos r) (c *ℤ pos p)
     (λ l. l)
-    (λ l. let back = times_le (c *ℤ pos p) (a *ℤ pos r) (pos q) q1 l in absurd (omega (arith, ints)))
+    (λ l. let back = times_le (c *ℤ pos p) (a *ℤ pos r) (pos q) q1 l in absurd (omega (arith, ints, times_swap a q r, times_swap b p r, times_swap c q p)))
 ratio_chain a (negsuc p) b q c r p1 q1 r1 h k = absurd p1.le
 ratio_chain a (pos p) b (negsuc q) c r p1 q1 r1 h k = absurd q1.le
 ratio_chain a (pos p) b (pos q) c (negsuc r) p1 q1 r1 h k = absurd r1.le
@@ -110,4 +119,4 @@ pub fraction_order-ties : (x y : Fraction) → eq_of_both (on (λ f. f.n) int_eq
 fraction_order-ties x y =
     both_ways _ _
     (λ e. ap (λ w. is_eq (fraction_order x w)) (sym (Fraction-same x y ((signed_Decides x.n y.n).0 (first_so _ _ e)) ((signed_Decides x.d y.d).0 (second_so _ _ e)))) ∙ ap is_eq (tied_itself fraction_order_total x))
-    (λ e. let same = fraction_order-exact x y ((Equal-is (fraction_order x y)).0 e) in ?)
+    (λ e. let same = fraction_order-exact x y ((Equal-is (fraction_order x y)).0 e) in λ i. (signed_Decides x.n y.n).1 (ap (λ w. w.n) same) i && (signed_Decides x.d y.d).1 (ap (λ w. w.d) same) i)

@@ -2,7 +2,7 @@
 use Rattle.std.specs.Prelude.{◌≡◌, ℕ, ◌<◌, Bool, true, false, ℤ, List, [], ◌∷◌}
 use Rattle.std.specs.declared.cmp.Ordering.{Ordering}
 use Rattle.std.specs.declared.cmp.Ordering.TheVariants.{Less, Equal, Greater}
-use Rattle.std.specs.Cmp.{IsTotalOrder, nat_cmp_total, int_cmp_total, bool_cmp_total, int_ranked, ranked, then_flip}
+use Rattle.std.specs.Cmp.{IsTotalOrder, nat_cmp_total, int_cmp_total, bool_cmp_total, int_ranked, ranked, then_flip, alike_right}
 use Rattle.std.specs.Cmp.Lexicographic.{slice_cmp, nat_list_cmp_total}
 use Rattle.std.specs.Ordering.{nat_cmp, int_cmp, bool_cmp, ordering_then, ordering_reverse}
 use Rattle.std.proofs.Common.{sym, ap, ◌∙◌, arith, refl, rules}
@@ -66,7 +66,13 @@ in_kind-exact (Words x) (Words y) k h = ap Words (texts-exact x y h)
 in_kind-exact _ _ k h = absurd (omega arith)
 
 in_kind-chain : (x y z : Value) → order_in_kind x y ≡ Less → order_in_kind y z ≡ Less → order_in_kind x z ≡ Less
-in_kind-chain x y z h k = ?
+in_kind-chain (Truth x) (Truth y) (Truth z) h k = bool_cmp_total.trans x y z h k
+in_kind-chain (Whole x) (Whole y) (Whole z) h k = int_cmp_total.trans x y z h k
+in_kind-chain (Fraction x) (Fraction y) (Fraction z) h k = fraction_order_total.trans x y z h k
+in_kind-chain (Date x) (Date y) (Date z) h k = int_cmp_total.trans x y z h k
+in_kind-chain (Moment x) (Moment y) (Moment z) h k = int_cmp_total.trans x y z h k
+in_kind-chain (Words x) (Words y) (Words z) h k = nat_list_cmp_total.trans x y z h k
+in_kind-chain _ _ _ h k = cc
 
 -- ---- by kind, then by value
 
@@ -83,8 +89,22 @@ unfolding value_order
 value_order-flip x y =
     (λ i. ordering_then (nat_cmp_total.antisymm (kind x) (kind y) i) (in_kind-flip x y i)) ∙ then_flip (nat_cmp (kind y) (kind x)) (order_in_kind y x)
 
+-- one step of "by kind, then by value", where p, q and s say how the values stand
+kinds-chain : (a b c : ℕ) (p q s : Ordering) (kept : p ≡ Less → q ≡ Less → s ≡ Less) (r t : Ordering) → nat_cmp a b ≡ r → nat_cmp b c ≡ t → ordering_then r p ≡ Less → ordering_then t q ≡ Less → ordering_then (nat_cmp a c) s ≡ Less
+kinds-chain a b c p q s kept Less Less e f h k = ap (λ o. ordering_then o s) (nat_cmp_total.trans a b c e f)
+kinds-chain a b c p q s kept Less Equal e f h k =
+    ap (λ o. ordering_then o s) (sym (alike_right nat_cmp_total b c a f) ∙ e)
+kinds-chain a b c p q s kept Equal Less e f h k = ap (λ o. ordering_then o s) (nat_cmp_total.congr a b c e ∙ f)
+kinds-chain a b c p q s kept Equal Equal e f h k =
+    ap (λ o. ordering_then o s) (nat_cmp_total.congr a b c e ∙ f) ∙ kept h k
+kinds-chain a b c p q s kept Greater t e f h k = cc
+kinds-chain a b c p q s kept Less Greater e f h k = cc
+kinds-chain a b c p q s kept Equal Greater e f h k = cc
+
 value_order-chain : (x y z : Value) → value_order x y ≡ Less → value_order y z ≡ Less → value_order x z ≡ Less
-value_order-chain x y z h k = ?
+unfolding value_order
+value_order-chain x y z h k =
+    kinds-chain (kind x) (kind y) (kind z) (order_in_kind x y) (order_in_kind y z) (order_in_kind x z) (in_kind-chain x y z) (nat_cmp (kind x) (kind y)) (nat_cmp (kind y) (kind z)) refl refl h k
 
 pub value_order_total : IsTotalOrder value_order
 value_order_total = record {
