@@ -39,10 +39,10 @@ times_cancel a b d h e =
     (λ m. let t = times_less b a d h m in absurd (omega (arith, ints)))
     (λ m. omega (arith, ints)))
 
-times_pos : (a : ℤ) (k : ℕ) → up (a *ℤ pos k) + down a * k ≡ up a * k + down (a *ℤ pos k)
+pub times_pos : (a : ℤ) (k : ℕ) → up (a *ℤ pos k) + down a * k ≡ up a * k + down (a *ℤ pos k)
 times_pos a k = omega (arith, ints)
 
-times_swap : (a : ℤ) (p q : ℕ) → (a *ℤ pos p) *ℤ pos q ≡ (a *ℤ pos q) *ℤ pos p
+pub times_swap : (a : ℤ) (p q : ℕ) → (a *ℤ pos p) *ℤ pos q ≡ (a *ℤ pos q) *ℤ pos p
 times_swap a p q =
     let first : (up (a *ℤ pos p) + down a * p) * q ≡ (up a * p + down (a *ℤ pos p)) * q = ap (λ x. x * q) (times_pos a p) in
     let second : (up (a *ℤ pos q) + down a * q) * p ≡ (up a * q + down (a *ℤ pos q)) * p = ap (λ x. x * p) (times_pos a q) in
@@ -120,3 +120,18 @@ fraction_order-ties x y =
     both_ways _ _
     (λ e. ap (λ w. is_eq (fraction_order x w)) (sym (Fraction-same x y ((signed_Decides x.n y.n).0 (first_so _ _ e)) ((signed_Decides x.d y.d).0 (second_so _ _ e)))) ∙ ap is_eq (tied_itself fraction_order_total x))
     (λ e. let same = fraction_order-exact x y ((Equal-is (fraction_order x y)).0 e) in λ i. (signed_Decides x.n y.n).1 (ap (λ w. w.n) same) i && (signed_Decides x.d y.d).1 (ap (λ w. w.d) same) i)
+
+pub positive_swap : (a p q : ℤ) → pos 1 ≤ℤ p → pos 1 ≤ℤ q → (a *ℤ p) *ℤ q ≡ (a *ℤ q) *ℤ p
+positive_swap a (pos p) (pos q) g h = times_swap a p q
+positive_swap a (negsuc p) q g h = absurd g.le
+positive_swap a (pos p) (negsuc q) g h = absurd h.le
+
+-- what is in its lowest terms is its own lowest form
+pub IsReduced-itself : (n c a d : ℤ) → pos 1 ≤ℤ c → IsReduced n c a d → IsReduced a d a d
+IsReduced-itself n c a d c1 x = record {
+  positive = x.positive;
+  equal = refl;
+  least = λ b e some same. x.least b e some
+      (times_cancel (b *ℤ c) (n *ℤ e) d x.positive
+          (positive_swap b c d c1 x.positive ∙ ap (λ z. z *ℤ c) same ∙ positive_swap a e c some c1 ∙ ap (λ z. z *ℤ e) x.equal ∙ positive_swap n d e x.positive some));
+}

@@ -1,4 +1,5 @@
 pub mod Reduced
+pub mod Divisors
 pub mod Fractions
 pub mod FractionLaws
 pub mod Values

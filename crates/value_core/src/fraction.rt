@@ -1,6 +1,7 @@
 ghost use Rattle.std.specs.Prelude.{◌≡◌, ◌*◌, ◌<◌, pos, ◌≤ℤ◌};
-ghost use Rattle.std.specs.Int.{IsGcd};
+ghost use Rattle.std.specs.Int.{int_div_euclid, int_rem_euclid};
 ghost use Rattle.std.specs.Ordering.{nat_cmp};
+ghost use Rattle.value_core.specs.Divisors.{IsGreatestDivisor};
 ghost use Rattle.value_core.specs.Reduced.{IsReduced, IsInReach};
 
 use std::cmp::Ordering;
@@ -35,16 +36,28 @@ impl Fraction {
     pub fn order(&self, other: &Fraction) -> Ordering
         ensures { result ≡ fraction_order self.now other.now }
     {
-        let wholes = self.n.div_euclid(self.d).cmp(&other.n.div_euclid(other.d));
+        let wholes = self.floor().cmp(&other.floor());
         if wholes.is_ne() {
             return wholes;
         }
         order_of_ratios(
-            self.n.rem_euclid(self.d) as u128,
+            self.above_floor(),
             self.d as u128,
-            other.n.rem_euclid(other.d) as u128,
+            other.above_floor(),
             other.d as u128,
         )
+    }
+
+    fn floor(&self) -> i128
+        ensures { result ≡ int_div_euclid self.now.n self.now.d }
+    {
+        self.n.div_euclid(self.d)
+    }
+
+    fn above_floor(&self) -> u128
+        ensures { pos result ≡ int_rem_euclid self.now.n self.now.d }
+    {
+        self.n.rem_euclid(self.d) as u128
     }
 }
 
@@ -103,7 +116,7 @@ impl Ord for Fraction {
 }
 
 fn greatest_divisor(a: u128, b: u128) -> u128
-    ensures { IsGcd a b result }
+    ensures { IsGreatestDivisor a b result }
 {
     let mut divisor = a;
     let mut rest = b;

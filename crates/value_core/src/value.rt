@@ -36,6 +36,7 @@ impl Value {
         }
     }
 
+    #[tactic(auto, unfolding(crate::specs::Values::value_order))]
     pub fn order(&self, other: &Value) -> Ordering
         ensures { result ≡ value_order self.now other.now }
     {
