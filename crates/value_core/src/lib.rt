@@ -4,7 +4,9 @@
 #![tactic(auto)]
 
 mod fraction;
+mod laws;
 mod value;
 
 pub use fraction::Fraction;
+pub use laws::{fractions_are_ordered, lowest_form_is_one, values_are_ordered};
 pub use value::Value;

@@ -1,5 +1,13 @@
+ghost use Rattle.std.specs.Prelude.{◌≡◌, refl};
+ghost use Rattle.std.specs.Cmp.{eq_by_cmp_equiv, partial_equiv_from_equiv, partial_order_from_total};
+ghost use Rattle.std.specs.Ordering.{as_partial_cmp, eq_by_cmp};
+ghost use Rattle.value_core.specs.ValueLaws.{value_order_total};
+ghost use Rattle.value_core.specs.Values.{kind, value_order};
+
 use crate::fraction::Fraction;
-use plain_data::Text;
+use plain_data::{Copies, Memory, Text};
+use std::alloc::Global;
+use std::cmp::Ordering;
 
 /// A value that isn't null.
 #[derive(Debug, Drop)]
@@ -12,4 +20,85 @@ pub enum Value {
     /// Milliseconds since 1970-01-01T00:00:00Z.
     Moment(i64),
     Words(Text),
+}
+
+impl Value {
+    fn kind(&self) -> u8
+        ensures { result ≡ kind self.now }
+    {
+        match self {
+            Value::Bool(_) => 1,
+            Value::Whole(_) => 2,
+            Value::Fraction(_) => 3,
+            Value::Date(_) => 4,
+            Value::Moment(_) => 5,
+            Value::Words(_) => 6,
+        }
+    }
+
+    #[tactic(auto, unfolding(crate::specs::Values::value_order))]
+    pub fn order(&self, other: &Value) -> Ordering
+        ensures { result ≡ value_order self.now other.now }
+    {
+        match (self, other) {
+            (Value::Bool(a), Value::Bool(b)) => a.cmp(b),
+            (Value::Whole(a), Value::Whole(b)) => a.cmp(b),
+            (Value::Fraction(a), Value::Fraction(b)) => a.order(b),
+            (Value::Date(a), Value::Date(b)) => a.cmp(b),
+            (Value::Moment(a), Value::Moment(b)) => a.cmp(b),
+            (Value::Words(a), Value::Words(b)) => a.cmp(b),
+            _ => self.kind().cmp(&other.kind()),
+        }
+    }
+}
+
+impl PartialEq for Value {
+    ghost eq = { eq_by_cmp value_order };
+
+    ghost laws = { partial_equiv_from_equiv (eq_by_cmp_equiv value_order_total) };
+
+    fn eq(&self, other: &Value) -> bool {
+        self.order(other).is_eq()
+    }
+}
+
+impl Eq for Value {
+    ghost laws = { eq_by_cmp_equiv value_order_total };
+}
+
+impl PartialOrd for Value {
+    ghost partial_cmp = { as_partial_cmp value_order };
+
+    ghost laws = { partial_order_from_total value_order_total };
+
+    fn partial_cmp(&self, other: &Value) -> Option<Ordering> {
+        Some(self.cmp(other))
+    }
+}
+
+impl Ord for Value {
+    ghost cmp = { value_order };
+
+    ghost total = { value_order_total };
+
+    ghost matches_partial_cmp = { λ x y. refl };
+
+    ghost matches_eq = { λ x y. refl };
+
+    fn cmp(&self, other: &Value) -> Ordering {
+        self.order(other)
+    }
+}
+
+impl Copies for Value {
+    fn copies(&self, alloc: Global) -> Result<Value, Memory> {
+        Ok(match self {
+            Value::Bool(x) => Value::Bool(*x),
+            Value::Whole(x) => Value::Whole(*x),
+            Value::Fraction(x) => Value::Fraction(*x),
+            Value::Date(x) => Value::Date(*x),
+            Value::Moment(x) => Value::Moment(*x),
+            Value::Words(x) => Value::Words(x.copies(alloc)?),
+        })
+    }
 }

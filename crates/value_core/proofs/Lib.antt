@@ -1,0 +1,4 @@
+pub mod DivisorSteps
+pub mod Euclid
+pub mod Floors
+pub mod Lowest
