@@ -1,0 +1,3 @@
+//! Rows of a table, read from JSON values.
+#![tactic(auto)]
+
