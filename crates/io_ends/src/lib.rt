@@ -25,3 +25,6 @@ pub use mem_source::MemSource;
 pub use reader::LineReader;
 pub use sink::{Sink, SinkFault, write_whole};
 pub use source::{Source, SourceFailed};
+
+#[cfg(test)]
+mod tests;
