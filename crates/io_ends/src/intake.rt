@@ -57,7 +57,8 @@ impl Intake {
 
     /// An intake that nothing came to.
     pub fn make(alloc: Global) -> Result<Intake, AllocError>
-        ensures { IfOk result (λ intake. (held intake ≡ []) × (intake.given ≡ 0) × (intake.ended ≡ false)) }
+        ensures { IfOk result (λ intake.
+            (held intake ≡ []) × (intake.given ≡ 0) × (intake.ended ≡ false)) }
     {
         Ok(Intake {
             chunk: vec![in alloc; 0; CHUNK]?,
@@ -103,7 +104,8 @@ impl Intake {
     fn refill<S: Source>(&mut self, source: &mut S) -> Result<bool, LineFault>
         requires empty { held self.old ≡ [] }
         requires within { self.old.given ≤ 2 ^ 30 }
-        ensures came { Came (S.left source.old) (S.left source.new) self.old.given self.new.given (λ came. (held self.new ≡ came) × OnErr result (take (2 ^ 30 - self.old.given) came ≡ [])) }
+        ensures came { Came (S.left source.old) (S.left source.new) self.old.given self.new.given
+            (λ came. (held self.new ≡ came) × OnErr result (take (2 ^ 30 - self.old.given) came ≡ [])) }
         ensures more { IfOk result (λ more. Refilled more (held self.new) self.new.ended (S.left source.new)) }
         ensures within { IsWithin result self.new.given }
         ensures later { S.faults source.old ≤ S.faults source.new }

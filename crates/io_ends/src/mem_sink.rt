@@ -23,7 +23,13 @@ impl Model for MemSink {
 
     ghost Value = { SinkState };
 
-    ghost view = { λ s. record { taken = s.taken.items; piece = s.piece; fails = s.tally.fails; calls = s.tally.calls; faults = s.tally.faults } };
+    ghost view = { λ s. record {
+      taken = s.taken.items;
+      piece = s.piece;
+      fails = s.tally.fails;
+      calls = s.tally.calls;
+      faults = s.tally.faults;
+    } };
 
     ghost invariant = { λ s. 0 < s.piece };
 }

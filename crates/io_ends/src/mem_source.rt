@@ -24,7 +24,13 @@ impl Model for MemSource {
 
     ghost Value = { SourceState };
 
-    ghost view = { λ s. record { left = drop s.from s.bytes; piece = s.piece; fails = s.tally.fails; calls = s.tally.calls; faults = s.tally.faults } };
+    ghost view = { λ s. record {
+      left = drop s.from s.bytes;
+      piece = s.piece;
+      fails = s.tally.fails;
+      calls = s.tally.calls;
+      faults = s.tally.faults;
+    } };
 
     ghost invariant = { λ s. (s.from ≤ length s.bytes) × (0 < s.piece) };
 }
@@ -58,7 +64,8 @@ impl Source for MemSource {
         ensures cause { HasCause self.old.faults self.new.faults result }
 
         // What the form in memory tells beyond the trait.
-        ensures count { IfOk result (λ given. given ≡ min self.old.piece (min (length piece.old) (length self.old.left))) }
+        ensures count { IfOk result (λ given.
+            given ≡ min self.old.piece (min (length piece.old) (length self.old.left))) }
         ensures fails { IsErr result ↔ IsTrue (is_to_fail self.old.fails self.new.calls) }
         ensures calls { self.new.calls ≡ one_more self.old.calls }
         ensures counted { self.new.faults ≡ faults_after self.old.fails self.new.calls self.old.faults }

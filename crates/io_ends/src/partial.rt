@@ -27,7 +27,8 @@ impl Partial {
 
     /// Puts `part` at the end, and forgets the text once it has more than `longest` bytes.
     pub fn add(&mut self, longest: u64, part: &[u8]) -> Result<(), AllocError>
-        ensures { OnOk result ((text : List ℕ) → Stands longest text self.old → Stands longest (text ++ part.now) self.new) }
+        ensures { OnOk result ((text : List ℕ) → Stands longest text self.old
+            → Stands longest (text ++ part.now) self.new) }
     {
         if self.long {
             return Ok(());

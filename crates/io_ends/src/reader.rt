@@ -30,15 +30,28 @@ impl Model for LineReader {
 
     ghost Value = { ReaderState };
 
-    ghost view = { λ r. record { held = held r.intake; given = r.intake.given; longest = r.longest; ended = r.intake.ended; failed = r.failed } };
+    ghost view = { λ r. record {
+      held = held r.intake;
+      given = r.intake.given;
+      longest = r.longest;
+      ended = r.intake.ended;
+      failed = r.failed;
+    } };
 
-    ghost invariant = { λ r. r.failed ≡ false → (r.intake.given ≤ 2 ^ 30) × (r.intake.ended ≡ true → held r.intake ≡ []) };
+    ghost invariant = { λ r. r.failed ≡ false
+        → (r.intake.given ≤ 2 ^ 30) × (r.intake.ended ≡ true → held r.intake ≡ []) };
 }
 
 impl LineReader {
     /// A reader that was given nothing. Lines of more than `longest` bytes are read past.
     pub fn make(alloc: Global, longest: u64) -> Result<LineReader, Memory>
-        ensures { IfOk result (λ reader. reader ≡ record { held = []; given = 0; longest = longest; ended = false; failed = false }) }
+        ensures { IfOk result (λ reader. reader ≡ record {
+          held = [];
+          given = 0;
+          longest = longest;
+          ended = false;
+          failed = false;
+        }) }
     {
         let intake = Intake::make(alloc)?;
         Ok(LineReader {

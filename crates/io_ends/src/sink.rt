@@ -4,7 +4,7 @@ ghost use Rattle.io_ends.specs.Causes.{HasSinkCause};
 
 use std::alloc::AllocError;
 
-/// Why a sink took nothing: the outside failed, or memory was wanted and not given.
+/// Why a call of a sink took nothing: the outside failed, or memory was wanted and not given.
 #[derive(Clone, Copy, Debug, Drop, PartialEq, Eq)]
 pub enum SinkFault {
     Failed,
