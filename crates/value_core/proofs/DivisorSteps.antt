@@ -1,5 +1,5 @@
 -- The steps of Euclid's algorithm keep the greatest common divisor.
-use Rattle.std.proofs.Common.{◌≡◌, ℕ, ◌+◌, ◌*◌, ◌/◌, ◌%◌, ◌≤◌, ◌<◌, sym, ap, subst, arith}
+use Rattle.std.proofs.Common.{◌≡◌, ℕ, ◌+◌, ◌*◌, ◌/◌, ◌%◌, sym, ap, subst, arith}
 use Prim.Native.Nat.{◌∣◌}
 use native.Mathlib.Nat.{dvd_refl, dvd-zero, dvd-mod_iff, dvd-add_iff_right, dvd-mul_left_of_dvd}
 use Rattle.std.proofs.lemmas.Nat.{div-add-mod'}

@@ -1,5 +1,5 @@
 -- Two fractions compared first by the greatest whole number that isn't above each, then by what stands above it.
-use Rattle.std.proofs.Common.{◌≡◌, ℕ, ◌+◌, ◌-◌, ◌*◌, ◌/◌, ◌%◌, ◌<◌, ◌≤◌, Bool, true, false, sym, ap, ◌∙◌, refl, arith, ℤ, pos, negsuc, ◌+ℤ◌, ◌*ℤ◌, ◌≤ℤ◌, ◌<ℤ◌, neg_ℤ, unsigned_abs}
+use Rattle.std.proofs.Common.{◌≡◌, ℕ, ◌+◌, ◌-◌, ◌*◌, ◌/◌, ◌%◌, ◌<◌, ◌≤◌, true, false, sym, ap, ◌∙◌, refl, arith, ℤ, pos, negsuc, ◌+ℤ◌, ◌*ℤ◌, ◌≤ℤ◌, ◌<ℤ◌, unsigned_abs}
 use Rattle.std.proofs.Math.Nat.{mul-le-mul_right, mul_comm}
 use Rattle.std.proofs.lemmas.Nat.{div-add-mod', mod_below}
 use Rattle.std.proofs.lemmas.Int.{ints}
@@ -33,7 +33,7 @@ floors_apart A A' Q Q' C C' T T' m k r s e f p q l =
 less_by_floors : (a c q t : ℤ) (m k r s : ℕ) → a ≡ q *ℤ pos m +ℤ pos r → c ≡ t *ℤ pos k +ℤ pos s → r < m → s < k → q <ℤ t → (a *ℤ pos k) <ℤ (c *ℤ pos m)
 less_by_floors a c q t m k r s e f p g l =
     let below = floors_apart (up a) (down a) (up q) (down q) (up c) (down c) (up t) (down t) m k r s
-        (omega (arith, ints, times_pos q m)) (omega (arith, ints, times_pos t k)) p g (omega (arith, ints)) in
+    (omega (arith, ints, times_pos q m)) (omega (arith, ints, times_pos t k)) p g (omega (arith, ints)) in
     omega (arith, ints, times_pos a k, times_pos c m)
 
 int_cmp-add : (z : ℤ) (x y : ℕ) → nat_cmp x y ≡ int_cmp (z +ℤ pos x) (z +ℤ pos y)
@@ -56,13 +56,13 @@ module _ (a c : ℤ) where
       let first = euclid_parts a m p in
       let second = euclid_parts c k q in
       int_cmp_is (a *ℤ pos k) (c *ℤ pos m) Less
-          (less_by_floors a c (int_div_euclid a (pos m)) (int_div_euclid c (pos k)) m k first.0 second.0 first.3 second.3 first.1 second.1 (int_ranked _ _ Less e))
+      (less_by_floors a c (int_div_euclid a (pos m)) (int_div_euclid c (pos k)) m k first.0 second.0 first.3 second.3 first.1 second.1 (int_ranked _ _ Less e))
   apart_by m k p q Equal e n = cc
   apart_by m k p q Greater e n =
       let first = euclid_parts a m p in
       let second = euclid_parts c k q in
       int_cmp_is (a *ℤ pos k) (c *ℤ pos m) Greater
-          (less_by_floors c a (int_div_euclid c (pos k)) (int_div_euclid a (pos m)) k m second.0 first.0 second.3 first.3 second.1 first.1 (int_ranked _ _ Greater e))
+      (less_by_floors c a (int_div_euclid c (pos k)) (int_div_euclid a (pos m)) k m second.0 first.0 second.3 first.3 second.1 first.1 (int_ranked _ _ Greater e))
 
 same_floors : (x y : ℤ) (r : Ordering) → r ≡ int_cmp x y → is_ne r ≡ false → x ≡ y
 same_floors x y Less e n = cc

@@ -1,8 +1,8 @@
 -- A fraction divided through by the greatest common divisor is in its lowest terms.
-use Rattle.std.proofs.Common.{◌≡◌, ℕ, zero, suc, ◌+◌, ◌*◌, ◌/◌, ◌%◌, ◌^◌, ◌<◌, ◌≤◌, sym, ap, ◌∙◌, subst, refl, arith, ℤ, pos, negsuc, ◌*ℤ◌, ◌≤ℤ◌, ◌<ℤ◌, neg_ℤ, unsigned_abs, int_div, FitsSigned, to_z, of_z}
+use Rattle.std.proofs.Common.{◌≡◌, ℕ, zero, suc, ◌+◌, ◌*◌, ◌/◌, ◌^◌, ◌<◌, ◌≤◌, sym, ap, ◌∙◌, subst, refl, arith, ℤ, pos, negsuc, ◌*ℤ◌, ◌≤ℤ◌, neg_ℤ, unsigned_abs, int_div, FitsSigned, to_z, of_z}
 use Prim.Native.Nat.{◌∣◌}
 use native.Mathlib.Nat.{dvd-mul_left, dvd-mul_right, le_of_dvd, pos_of_dvd_of_pos, mod-eq-zero_of_dvd, div-le_self}
-use Rattle.std.proofs.Math.Nat.{mul-le-mul_right, mul_comm}
+use Rattle.std.proofs.Math.Nat.{mul-le-mul_right}
 use Rattle.std.proofs.lemmas.Nat.{div-add-mod'}
 use Rattle.std.proofs.lemmas.Bool.{cases_lt}
 use mathlib.Core.Logic.{⊎_elim}
@@ -34,8 +34,8 @@ lowest_denominator n c g b e p q h same =
     let some = divisor_positive n c g p h in
     let divides : c ∣ g * e = h.shared c e (subst (λ z. c ∣ z) same (dvd-mul_left c b)) (dvd-mul_right c e) in
     let positive : 0 < g * e =
-        let times : 1 * g ≤ e * g = mul-le-mul_right g q in
-        omega arith in
+    let times : 1 * g ≤ e * g = mul-le-mul_right g q in
+    omega arith in
     quotient_within (c / g) g e c some (exact_quotient g c h.second) (le_of_dvd positive divides)
 
 neg_times : (k c : ℕ) → neg_ℤ (pos k) *ℤ pos c ≡ neg_ℤ (pos (k * c))

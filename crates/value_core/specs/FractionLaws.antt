@@ -1,10 +1,9 @@
 -- Laws of fractions: a fraction has one lowest form, and fractions have one strict total order.
 use Rattle.std.specs.Prelude.{◌≡◌, ℕ, ◌+◌, ◌*◌, ◌<◌, ◌≤◌, ◌&&◌, ℤ, pos, negsuc, ◌*ℤ◌, ◌≤ℤ◌, ◌<ℤ◌}
-use Rattle.std.specs.declared.cmp.Ordering.{Ordering}
-use Rattle.std.specs.declared.cmp.Ordering.TheVariants.{Less, Equal, Greater}
+use Rattle.std.specs.declared.cmp.Ordering.TheVariants.{Less, Equal}
 use Rattle.std.specs.Cmp.{IsTotalOrder, int_cmp_total, int_ranked, int_cmp_is, signed_Decides, both_ways, Equal-is, tied_itself, first_so, second_so}
-use Rattle.std.specs.Ordering.{int_cmp, int_eq, is_eq, eq_by_cmp, eq_of_both, on}
-use Rattle.std.proofs.Common.{sym, ap, ◌∙◌, arith, refl, rules}
+use Rattle.std.specs.Ordering.{int_eq, is_eq, eq_by_cmp, eq_of_both, on}
+use Rattle.std.proofs.Common.{sym, ap, ◌∙◌, arith, refl}
 use Rattle.std.proofs.Math.Nat.{mul-le-mul_right}
 use Rattle.std.proofs.lemmas.Int.{ints, by_lt_z}
 use borrow.Author.Differences.{up, down}
@@ -133,5 +132,5 @@ IsReduced-itself n c a d c1 x = record {
   equal = refl;
   least = λ b e some same. x.least b e some
       (times_cancel (b *ℤ c) (n *ℤ e) d x.positive
-          (positive_swap b c d c1 x.positive ∙ ap (λ z. z *ℤ c) same ∙ positive_swap a e c some c1 ∙ ap (λ z. z *ℤ e) x.equal ∙ positive_swap n d e x.positive some));
+      (positive_swap b c d c1 x.positive ∙ ap (λ z. z *ℤ c) same ∙ positive_swap a e c some c1 ∙ ap (λ z. z *ℤ e) x.equal ∙ positive_swap n d e x.positive some));
 }

@@ -2,13 +2,12 @@
 use Rattle.std.specs.Prelude.{◌≡◌, ℕ, ◌<◌, Bool, true, false, ℤ, List, [], ◌∷◌}
 use Rattle.std.specs.declared.cmp.Ordering.{Ordering}
 use Rattle.std.specs.declared.cmp.Ordering.TheVariants.{Less, Equal, Greater}
-use Rattle.std.specs.Cmp.{IsTotalOrder, nat_cmp_total, int_cmp_total, bool_cmp_total, int_ranked, ranked, then_flip, alike_right}
+use Rattle.std.specs.Cmp.{IsTotalOrder, nat_cmp_total, int_cmp_total, bool_cmp_total, int_ranked, ranked, nat_cmp_is, then_flip, alike_right}
 use Rattle.std.specs.Cmp.Lexicographic.{slice_cmp, nat_list_cmp_total}
 use Rattle.std.specs.Ordering.{nat_cmp, int_cmp, bool_cmp, ordering_then, ordering_reverse}
-use Rattle.std.proofs.Common.{sym, ap, ◌∙◌, arith, refl, rules}
+use Rattle.std.proofs.Common.{sym, ap, ◌∙◌, arith, refl}
 use Rattle.value_core.specs.declared.value.Value.{Value}
 use Rattle.value_core.specs.declared.value.Value.TheVariants.{Bool as Truth, Whole, Fraction, Date, Moment, Words}
-use Rattle.value_core.specs.Fractions.{fraction_order}
 use Rattle.value_core.specs.FractionLaws.{fraction_order_total, fraction_order-exact}
 use Rattle.value_core.specs.Values.{kind, order_in_kind, value_order}
 
@@ -83,6 +82,11 @@ value_order-exact x y h =
     in_kind-exact x y
     (nat_cmp-exact (kind x) (kind y) (then_left (nat_cmp (kind x) (kind y)) (order_in_kind x y) h))
     (then_right (nat_cmp (kind x) (kind y)) (order_in_kind x y) h)
+
+-- a value of a lesser kind stands first
+pub value_order-by_kind : (x y : Value) → kind x < kind y → value_order x y ≡ Less
+unfolding value_order
+value_order-by_kind x y h = ap (λ o. ordering_then o (order_in_kind x y)) (sym (nat_cmp_is (kind x) (kind y) Less h))
 
 value_order-flip : (x y : Value) → value_order x y ≡ ordering_reverse (value_order y x)
 unfolding value_order

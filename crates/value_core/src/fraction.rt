@@ -6,10 +6,13 @@ ghost use Rattle.value_core.specs.Reduced.{IsReduced, IsInReach};
 
 use std::cmp::Ordering;
 
-/// A fraction in its lowest terms.
+/// A fraction in its lowest terms: `n` over `d`, where no lesser positive denominator gives the same
+/// number. Both parts are at most 2^100 away from 0. Fractions compare as numbers.
 #[derive(Clone, Copy, Debug)]
 pub struct Fraction {
+    /// The numerator, which carries the sign.
     pub n: i128,
+    /// The denominator, at least 1.
     pub d: i128,
     pub ghost lowest: { IsReduced n d n d },
     pub ghost n_in_reach: { IsInReach n },
@@ -19,7 +22,8 @@ pub struct Fraction {
 impl Fraction {
     ghost use Rattle.value_core.specs.Fractions.{fraction_order};
 
-    /// The fraction `n` over `d` in its lowest terms.
+    /// The fraction that is `n` over `d`, with the least positive denominator. A whole number has the
+    /// denominator 1.
     pub fn reduced(n: i128, d: i128) -> Fraction
         requires positive { pos 1 ≤ℤ d }
         requires n_in_reach { IsInReach n }
@@ -33,6 +37,8 @@ impl Fraction {
         }
     }
 
+    /// How two fractions stand as numbers. It divides step by step, and forms no product of their
+    /// parts.
     pub fn order(&self, other: &Fraction) -> Ordering
         ensures { result ≡ fraction_order self.now other.now }
     {
@@ -48,12 +54,14 @@ impl Fraction {
         )
     }
 
+    /// The greatest whole number that isn't above the fraction.
     fn floor(&self) -> i128
         ensures { result ≡ int_div_euclid self.now.n self.now.d }
     {
         self.n.div_euclid(self.d)
     }
 
+    /// How far the fraction is above its floor, in parts of its denominator.
     fn above_floor(&self) -> u128
         ensures { pos result ≡ int_rem_euclid self.now.n self.now.d }
     {
@@ -115,6 +123,7 @@ impl Ord for Fraction {
     }
 }
 
+/// The greatest common divisor, by Euclid's algorithm.
 fn greatest_divisor(a: u128, b: u128) -> u128
     ensures { IsGreatestDivisor a b result }
 {
@@ -126,6 +135,8 @@ fn greatest_divisor(a: u128, b: u128) -> u128
     divisor
 }
 
+/// How `a` over `b` stands to `c` over `d`: by their whole parts, and where these are equal by what
+/// is left, as Euclid's algorithm divides.
 fn order_of_ratios(a: u128, b: u128, c: u128, d: u128) -> Ordering
     requires first { 0 < b }
     requires second { 0 < d }
@@ -140,5 +151,59 @@ fn order_of_ratios(a: u128, b: u128, c: u128, d: u128) -> Ordering
     if left == 0 || right == 0 {
         return left.cmp(&right);
     }
+    // Of two ratios above 0 the greater has the lesser reciprocal.
     order_of_ratios(d, right, b, left)
+}
+
+#[cfg(test)]
+mod tests {
+    use super::*;
+    use std::process::Abort;
+
+    const REACH: i128 = 1 << 100;
+
+    fn parts(n: i128, d: i128) -> (i128, i128)
+        requires positive { pos 1 ≤ℤ d }
+        requires n_in_reach { IsInReach n }
+        requires d_in_reach { IsInReach d }
+    {
+        let fraction = Fraction::reduced(n, d);
+        (fraction.n, fraction.d)
+    }
+
+    #[test]
+    fn lowest_terms(rt: HostRuntime) {
+        assert_eq!(rt; parts(7, 3), (7, 3));
+        assert_eq!(rt; parts(6, 2), (3, 1));
+        assert_eq!(rt; parts(-6, 4), (-3, 2));
+        assert_eq!(rt; parts(0, 5), (0, 1));
+        assert_eq!(rt; parts(REACH, REACH), (1, 1));
+        assert_eq!(rt; parts(-REACH, REACH - 1), (-REACH, REACH - 1));
+        assert_eq!(rt; parts(REACH - 1, REACH), (REACH - 1, REACH));
+    }
+
+    fn stand(rt: &impl Abort, less: Fraction, greater: Fraction) {
+        assert_eq!(rt; less.order(&greater), Ordering::Less);
+        assert_eq!(rt; greater.order(&less), Ordering::Greater);
+        assert_eq!(rt; less.cmp(&less), Ordering::Equal);
+        assert!(rt; less < greater && less != greater && less == less);
+    }
+
+    #[test]
+    fn as_numbers(rt: HostRuntime) {
+        stand(&rt, Fraction::reduced(1, 3), Fraction::reduced(1, 2));
+        stand(&rt, Fraction::reduced(-1, 2), Fraction::reduced(-1, 3));
+        stand(&rt, Fraction::reduced(-1, 2), Fraction::reduced(0, 1));
+        stand(&rt, Fraction::reduced(7, 3), Fraction::reduced(5, 2));
+        stand(
+            &rt,
+            Fraction::reduced(REACH - 2, REACH - 1),
+            Fraction::reduced(REACH - 1, REACH),
+        );
+        stand(
+            &rt,
+            Fraction::reduced(1 - REACH, REACH),
+            Fraction::reduced(2 - REACH, REACH - 1),
+        );
+    }
 }

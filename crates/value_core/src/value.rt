@@ -9,33 +9,26 @@ use plain_data::{Copies, Memory, Text};
 use std::alloc::Global;
 use std::cmp::Ordering;
 
-/// A value that isn't null.
+/// A value that isn't null. All values have one total order: by kind, in the order below, then by
+/// value.
 #[derive(Debug, Drop)]
 pub enum Value {
+    /// False stands before true.
     Bool(bool),
+    /// A whole number, as an integer column's cell, a sum or a count.
     Whole(i128),
+    /// A fraction. It stands after every whole number, also where it is a lesser number.
     Fraction(Fraction),
     /// Days since 1970-01-01.
     Date(i32),
     /// Milliseconds since 1970-01-01T00:00:00Z.
     Moment(i64),
+    /// A text. Texts compare by their bytes.
     Words(Text),
 }
 
 impl Value {
-    fn kind(&self) -> u8
-        ensures { result ≡ kind self.now }
-    {
-        match self {
-            Value::Bool(_) => 1,
-            Value::Whole(_) => 2,
-            Value::Fraction(_) => 3,
-            Value::Date(_) => 4,
-            Value::Moment(_) => 5,
-            Value::Words(_) => 6,
-        }
-    }
-
+    /// How two values stand in the one order. It answers `Equal` only for equal values.
     #[tactic(auto, unfolding(crate::specs::Values::value_order))]
     pub fn order(&self, other: &Value) -> Ordering
         ensures { result ≡ value_order self.now other.now }
@@ -48,6 +41,20 @@ impl Value {
             (Value::Moment(a), Value::Moment(b)) => a.cmp(b),
             (Value::Words(a), Value::Words(b)) => a.cmp(b),
             _ => self.kind().cmp(&other.kind()),
+        }
+    }
+
+    /// The place of the value's kind among all kinds. Null, which is no value, has the place 0.
+    fn kind(&self) -> u8
+        ensures { result ≡ kind self.now }
+    {
+        match self {
+            Value::Bool(_) => 1,
+            Value::Whole(_) => 2,
+            Value::Fraction(_) => 3,
+            Value::Date(_) => 4,
+            Value::Moment(_) => 5,
+            Value::Words(_) => 6,
         }
     }
 }
@@ -100,5 +107,54 @@ impl Copies for Value {
             Value::Moment(x) => Value::Moment(*x),
             Value::Words(x) => Value::Words(x.copies(alloc)?),
         })
+    }
+}
+
+#[cfg(test)]
+mod tests {
+    use super::*;
+    use std::test::Fail;
+
+    fn ascending(alloc: Global) -> Result<Vec<Value>, Fail> {
+        Ok(vec![in alloc;
+            Value::Bool(false),
+            Value::Bool(true),
+            Value::Whole(-(1 << 69)),
+            Value::Whole(2),
+            Value::Whole(3),
+            Value::Fraction(Fraction::reduced(-1, 2)),
+            Value::Fraction(Fraction::reduced(-1, 3)),
+            Value::Fraction(Fraction::reduced(7, 3)),
+            Value::Date(-719162),
+            Value::Date(2932896),
+            Value::Moment(-62135596800000),
+            Value::Moment(253402300799999),
+            Value::Words(Text::from_str(alloc, "")?),
+            Value::Words(Text::from_str(alloc, "Z")?),
+            Value::Words(Text::from_str(alloc, "a")?),
+            Value::Words(Text::from_str(alloc, "ab")?),
+            Value::Words(Text::from_str(alloc, "\u{e9}")?),
+        ]?)
+    }
+
+    #[test]
+    fn each_before_the_next(rt: HostRuntime) -> Result<(), Fail> {
+        let values = ascending(rt.alloc())?;
+        for (i, x) in values.iter().enumerate() {
+            for (j, y) in values.iter().enumerate() {
+                assert_eq!(rt; x.order(y), i.cmp(&j));
+                assert_eq!(rt; x == y, i == j);
+                assert_eq!(rt; x < y, i < j);
+            }
+        }
+        Ok(())
+    }
+
+    #[test]
+    fn copies_are_equal(rt: HostRuntime) -> Result<(), Fail> {
+        for x in &ascending(rt.alloc())? {
+            assert!(rt; x.copies(rt.alloc())? == *x);
+        }
+        Ok(())
     }
 }

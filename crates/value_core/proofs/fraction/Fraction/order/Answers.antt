@@ -1,4 +1,4 @@
-use Rattle.std.proofs.Common.{◌*◌, to_z, of_z, FitsSigned, unsigned_abs, sym, ap, ◌∙◌, arith}
+use Rattle.std.proofs.Common.{◌*◌, FitsSigned, unsigned_abs, sym, ◌∙◌, arith}
 use Rattle.std.proofs.lemmas.Int.{to_z-of_z, ints}
 use Rattle.std.specs.Int.{w128}
 use Rattle.std.specs.Ordering.{nat_cmp, int_cmp}
@@ -14,8 +14,8 @@ returns-then-is_ne c =
     let fits : FitsSigned w128 c.floor.result = record { sfits = c.floor.type_inv } in
     let fits_too : FitsSigned w128 c.floor-2.result = record { sfits = c.floor-2.type_inv } in
     fraction_apart x.n x.d y.n y.d x.lowest.positive y.lowest.positive c.cmp-wholes.result
-        (c.cmp-wholes.ensures ∙ (λ i. int_cmp ((to_z-of_z w128 _ fits ∙ c.floor.ensures) i) ((to_z-of_z w128 _ fits_too ∙ c.floor-2.ensures) i)))
-        (sym c.is_ne.ensures ∙ c.if-is_ne.true)
+    (c.cmp-wholes.ensures ∙ (λ i. int_cmp ((to_z-of_z w128 _ fits ∙ c.floor.ensures) i) ((to_z-of_z w128 _ fits_too ∙ c.floor-2.ensures) i)))
+    (sym c.is_ne.ensures ∙ c.if-is_ne.true)
 
 pub returns : goal.returns
 unfolding fraction_order
@@ -31,5 +31,5 @@ returns c =
     c.order_of_ratios.ensures
     ∙ (λ i. nat_cmp (c.above_floor.result * unsigned_abs (to_z-of_z w128 y.d y_fits i)) (c.above_floor-2.result * unsigned_abs (to_z-of_z w128 x.d x_fits i)))
     ∙ fraction_rests x.n x.d y.n y.d x.lowest.positive y.lowest.positive c.above_floor.result c.above_floor-2.result c.above_floor.ensures c.above_floor-2.ensures c.cmp-wholes.result
-        (c.cmp-wholes.ensures ∙ (λ i. int_cmp ((to_z-of_z w128 _ fits ∙ c.floor.ensures) i) ((to_z-of_z w128 _ fits_too ∙ c.floor-2.ensures) i)))
-        (sym c.is_ne.ensures ∙ c.if-is_ne.false)
+    (c.cmp-wholes.ensures ∙ (λ i. int_cmp ((to_z-of_z w128 _ fits ∙ c.floor.ensures) i) ((to_z-of_z w128 _ fits_too ∙ c.floor-2.ensures) i)))
+    (sym c.is_ne.ensures ∙ c.if-is_ne.false)

@@ -37,21 +37,33 @@ module _ (c : After-greatest_divisor-divisor) where
       subst (λ z. IsReduced c.args.n c.args.d z (result_of c.args.d)) (sym n_is)
       (subst (λ z. IsReduced c.args.n c.args.d (int_div c.args.n (pos c.greatest_divisor-divisor.result)) z) (sym d_is) (reduced_by_divisor c.args.n c.args.d c.greatest_divisor-divisor.result c.requires.positive divisor_is))
 
+  quotient_allowed : (z : ℤ) → FitsSigned w128 z → (0 < c.greatest_divisor-divisor.result) × FitsSigned w128 (int_div (to_z w128 (of_z w128 z)) (to_z w128 c.greatest_divisor-divisor.result))
+  quotient_allowed z fits = (bounds.0, quotient_fits z c.greatest_divisor-divisor.result fits bounds.0 divisor_fits)
+
+  n_within : IsInReach (result_of c.args.n)
+  n_within = subst IsInReach (sym n_is) (quotient_in_reach c.args.n c.greatest_divisor-divisor.result c.requires.n_in_reach)
+
+  d_within : IsInReach (result_of c.args.d)
+  d_within = subst IsInReach (sym d_is) (quotient_in_reach c.args.d c.greatest_divisor-divisor.result c.requires.d_in_reach)
+
 pub overflow_cast-divisor : goal.overflow_cast-divisor
-overflow_cast-divisor c = divisor_fits c
+overflow_cast-divisor c = divisor_fits (goal.at.overflow_cast-divisor c).After-greatest_divisor-divisor
 
 pub nonzero_div-result : goal.nonzero_div-result
-nonzero_div-result c = ((bounds c).0, quotient_fits c.args.n _ c.ranges.n (bounds c).0 (divisor_fits c))
+nonzero_div-result c =
+    quotient_allowed (goal.at.nonzero_div-result c).After-greatest_divisor-divisor c.args.n c.ranges.n
 
 pub nonzero_div-result-2 : goal.nonzero_div-result-2
-nonzero_div-result-2 c = ((bounds c).0, quotient_fits c.args.d _ c.ranges.d (bounds c).0 (divisor_fits c))
+nonzero_div-result-2 c =
+    quotient_allowed (goal.at.nonzero_div-result-2 c).After-greatest_divisor-divisor c.args.d c.ranges.d
 
 pub invariant_of-result : goal.invariant_of-result
 invariant_of-result c =
+    let known = (goal.at.invariant_of-result c).After-greatest_divisor-divisor in
     record {
-      lowest = IsReduced-itself c.args.n c.args.d _ _ c.requires.positive (result_is_reduced c);
-      n_in_reach = subst IsInReach (sym (n_is c)) (quotient_in_reach c.args.n c.greatest_divisor-divisor.result c.requires.n_in_reach);
-      d_in_reach = subst IsInReach (sym (d_is c)) (quotient_in_reach c.args.d c.greatest_divisor-divisor.result c.requires.d_in_reach);
+      lowest = IsReduced-itself c.args.n c.args.d _ _ c.requires.positive (result_is_reduced known);
+      n_in_reach = n_within known;
+      d_in_reach = d_within known;
     }
 
 pub returns : goal.returns
