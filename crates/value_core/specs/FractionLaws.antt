@@ -85,6 +85,10 @@ Fraction-same x y p q i = record {
   d_in_reach = to_path_p (λ j. IsInReach (q j)) {a = x.d_in_reach} {b = y.d_in_reach} (IsInReach-prop _ _ y.d_in_reach) i;
 }
 
+-- fractions that are the lowest form of one ratio are one
+pub Fraction-unique : (n c : ℤ) (x y : Fraction) → pos 1 ≤ℤ c → IsReduced n c x.n x.d → IsReduced n c y.n y.d → x ≡ y
+Fraction-unique n c x y c1 h k = let same = IsReduced-unique n c x.n x.d y.n y.d c1 h k in Fraction-same x y same.0 same.1
+
 -- ---- the order
 
 -- fractions that compare equal are one

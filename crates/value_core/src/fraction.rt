@@ -98,7 +98,8 @@ impl PartialOrd for Fraction {
 
     ghost partial_cmp = { as_partial_cmp fraction_order };
 
-    ghost laws = { partial_order_from_own_ties (partial_order_from_total fraction_order_total) fraction_order-ties };
+    ghost laws = { partial_order_from_own_ties
+        (partial_order_from_total fraction_order_total) fraction_order-ties };
 
     fn partial_cmp(&self, other: &Fraction) -> Option<Ordering> {
         Some(self.cmp(other))

@@ -6,10 +6,13 @@ ghost use Rattle.value_core.specs.declared.value.Value.{Value};
 ghost use Rattle.value_core.specs.Fractions.{IsReduced, fraction_order};
 ghost use Rattle.value_core.specs.Values.{kind, value_order};
 
-/// A fraction has one lowest form: the definition determines both of its parts. It does nothing, and
-/// its contract is the law.
+/// A fraction has one lowest form: the definition determines both of its parts, and so the value. It
+/// does nothing, and its contract is the law.
 pub fn lowest_form_is_unique()
-    ensures { (n c a d b e : ℤ) → pos 1 ≤ℤ c → IsReduced n c a d → IsReduced n c b e → (a ≡ b) × (d ≡ e) }
+    ensures value { (n c : ℤ) (x y : Fraction) → pos 1 ≤ℤ c
+        → IsReduced n c x.n x.d → IsReduced n c y.n y.d → x ≡ y }
+    ensures parts { (n c a d b e : ℤ) → pos 1 ≤ℤ c
+        → IsReduced n c a d → IsReduced n c b e → (a ≡ b) × (d ≡ e) }
 {}
 
 /// Fractions have one total order, and only a fraction itself compares equal to it. It does nothing,
