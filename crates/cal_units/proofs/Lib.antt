@@ -1,0 +1,4 @@
+pub mod BucketLemmas
+pub mod DateTextLemmas
+pub mod DayLemmas
+pub mod DigitLemmas
