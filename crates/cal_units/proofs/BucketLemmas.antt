@@ -1,15 +1,14 @@
 -- The first day of a day's year, month or week, and the first millisecond of a moment's unit, are the
 -- greatest starts that are not later.
-use Rattle.std.proofs.Common.{◌≡◌, ℕ, ◌+◌, ◌-◌, ◌*◌, ◌%◌, ◌<◌, ◌≤◌, ◌⊎◌, inl, inr, refl, sym, ◌∙◌, ap, arith, ℤ, pos, neg_ℤ, ◌+ℤ◌, ◌-ℤ◌, ◌*ℤ◌, ◌<ℤ◌, ◌≤ℤ◌, unsigned_abs}
-use Rattle.std.specs.Int.{IsInRange, int_div_euclid, int_rem_euclid}
-use Rattle.jiff_core.specs.Calendar.{days_from_civil, days_in_month, weekday_number}
+use Rattle.std.proofs.Common.{◌≡◌, ℕ, ◌+◌, ◌-◌, inl, inr, refl, sym, ◌∙◌, arith, ℤ, pos, neg_ℤ, ◌-ℤ◌, ◌*ℤ◌, ◌<ℤ◌, ◌≤ℤ◌}
+use Rattle.jiff_core.specs.Calendar.{days_from_civil, weekday_number}
 use Rattle.jiff_core.proofs.SignedLemmas.{signed_arith, int_div_euclid-parts, int_rem_euclid-parts}
 use Rattle.jiff_core.proofs.CalendarLemmas.{days_in_month_bounds, weekday_number-add, weekday_number-parts, weekday_number_bound}
 use Rattle.jiff_core.proofs.DateLemmas.{IsEarlier, epoch_day-lt, cases_date, days_from_civil-day}
 use Rattle.cal_units.specs.declared.buckets.Unit.{Unit as TimeUnit}
 use Rattle.cal_units.specs.declared.buckets.Unit.TheVariants.{Y, M, W, D, H, Min, S}
 use Rattle.cal_units.specs.Calendar.{IsDay, IsMoment, IsCalendarDay, year_of, month_of, day_of_month, day_at}
-use Rattle.cal_units.specs.Buckets.{IsDateBucket, IsMomentBucket, IsMultiple, date_bucket, moment_bucket, floor_to}
+use Rattle.cal_units.specs.Buckets.{IsDateBucket, IsMomentBucket, IsMultiple, date_bucket, moment_bucket}
 use Rattle.cal_units.proofs.DayLemmas.{IsDate, parts_of, parts_are, in_year, is_day, date_with}
 use borrow.Author.Differences.{up, down}
 
@@ -130,9 +129,9 @@ day_floor ms range =
       start = omega (arith, signed_arith);
       not_later = omega (arith, signed_arith);
       greatest = λ o within start le.
-        let q₃ = int_div_euclid-parts o 86_400_000 (omega arith) in
-        let r₃ = int_rem_euclid-parts o 86_400_000 (omega arith) in
-        omega (arith, signed_arith);
+          let q₃ = int_div_euclid-parts o 86_400_000 (omega arith) in
+          let r₃ = int_rem_euclid-parts o 86_400_000 (omega arith) in
+          omega (arith, signed_arith);
     }
 
 hour_floor : (ms : ℤ) → IsMoment ms → IsMomentBucket H ms (moment_bucket H ms)
@@ -147,9 +146,9 @@ hour_floor ms range =
       start = omega (arith, signed_arith);
       not_later = omega (arith, signed_arith);
       greatest = λ o within start le.
-        let q₃ = int_div_euclid-parts o 3_600_000 (omega arith) in
-        let r₃ = int_rem_euclid-parts o 3_600_000 (omega arith) in
-        omega (arith, signed_arith);
+          let q₃ = int_div_euclid-parts o 3_600_000 (omega arith) in
+          let r₃ = int_rem_euclid-parts o 3_600_000 (omega arith) in
+          omega (arith, signed_arith);
     }
 
 minute_floor : (ms : ℤ) → IsMoment ms → IsMomentBucket Min ms (moment_bucket Min ms)
@@ -164,9 +163,9 @@ minute_floor ms range =
       start = omega (arith, signed_arith);
       not_later = omega (arith, signed_arith);
       greatest = λ o within start le.
-        let q₃ = int_div_euclid-parts o 60_000 (omega arith) in
-        let r₃ = int_rem_euclid-parts o 60_000 (omega arith) in
-        omega (arith, signed_arith);
+          let q₃ = int_div_euclid-parts o 60_000 (omega arith) in
+          let r₃ = int_rem_euclid-parts o 60_000 (omega arith) in
+          omega (arith, signed_arith);
     }
 
 second_floor : (ms : ℤ) → IsMoment ms → IsMomentBucket S ms (moment_bucket S ms)
@@ -181,9 +180,9 @@ second_floor ms range =
       start = omega (arith, signed_arith);
       not_later = omega (arith, signed_arith);
       greatest = λ o within start le.
-        let q₃ = int_div_euclid-parts o 1_000 (omega arith) in
-        let r₃ = int_rem_euclid-parts o 1_000 (omega arith) in
-        omega (arith, signed_arith);
+          let q₃ = int_div_euclid-parts o 1_000 (omega arith) in
+          let r₃ = int_rem_euclid-parts o 1_000 (omega arith) in
+          omega (arith, signed_arith);
     }
 
 -- the first millisecond of a day

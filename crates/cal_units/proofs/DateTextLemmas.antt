@@ -1,15 +1,14 @@
 -- The text of a date, read and written.
-use Rattle.std.proofs.Common.{◌≡◌, ℕ, zero, suc, ◌+◌, ◌-◌, ◌*◌, ◌/◌, ◌%◌, ◌<◌, ◌≤◌, inl, inr, Bool, true, false, ◌&&◌, nat_le, cond, List, [], ◌∷◌, ◌++◌, length, take, drop, get_or, Option, Some, None, Result, Ok, Err, IfOk, rules, refl, sym, ◌∙◌, ap, arith, ℤ, pos, codes}
-use Rattle.std.proofs.lemmas.Bool.{cases_Bool, and_parts, and_from, eqb-true, false≢true}
+use Rattle.std.proofs.Common.{◌≡◌, ℕ, ◌+◌, ◌-◌, ◌*◌, ◌/◌, ◌%◌, ◌<◌, inl, inr, true, false, List, [], ◌∷◌, ◌++◌, Option, Some, None, Result, Ok, Err, IfOk, refl, sym, ◌∙◌, ap, arith, ℤ, pos, codes}
+use Rattle.std.proofs.lemmas.Bool.{cases_Bool, and_parts, and_from, eqb-true}
 use Rattle.std.proofs.lemmas.Bool.Decides.{nat_tests}
 use Rattle.std.specs.Option.{ok_or}
 use Rattle.std.specs.Result.{result_ok}
 use Rattle.std.specs.Int.{IsInRange}
-use Rattle.std.specs.Char.{digit_value, is_ascii_digit}
-use Rattle.std.specs.Str.Parse.{AllDigits, digits_value}
+use Rattle.std.specs.Char.{is_ascii_digit}
+use Rattle.std.specs.Str.Parse.{digits_value}
 use Rattle.jiff_core.specs.declared.civil.date.Date.{Date}
 use Rattle.jiff_core.specs.Date.{epoch_day}
-use Rattle.jiff_core.specs.Calendar.{days_in_month, days_from_civil}
 use Rattle.jiff_core.proofs.CalendarLemmas.{days_in_month_bounds}
 use Rattle.cal_units.specs.Calendar.{IsDay, IsCalendarDay, year_of, month_of, day_of_month}
 use Rattle.cal_units.specs.Digits.{fits_byte, fits, number_in, two_digits, four_digits}
@@ -47,7 +46,7 @@ two_digits-value a b h k =
 pub four_digits-value : (a b c d : ℕ) → IsInRange 48 57 a → IsInRange 48 57 b → IsInRange 48 57 c → IsInRange 48 57 d → four_digits (digits_value 10 (a ∷ b ∷ c ∷ d ∷ [])) ≡ a ∷ b ∷ c ∷ d ∷ []
 four_digits-value a b c d h i j k =
     let n : digits_value 10 (a ∷ b ∷ c ∷ d ∷ []) ≡ (a - 48) * 1000 + (b - 48) * 100 + (c - 48) * 10 + (d - 48) =
-        omega (arith, digit_value_is a h, digit_value_is b i, digit_value_is c j, digit_value_is d k) in
+    omega (arith, digit_value_is a h, digit_value_is b i, digit_value_is c j, digit_value_is d k) in
     let w : 48 + digits_value 10 (a ∷ b ∷ c ∷ d ∷ []) / 1000 ≡ a = omega arith in
     let x : 48 + digits_value 10 (a ∷ b ∷ c ∷ d ∷ []) / 100 % 10 ≡ b = omega arith in
     let y : 48 + digits_value 10 (a ∷ b ∷ c ∷ d ∷ []) / 10 % 10 ≡ c = omega arith in

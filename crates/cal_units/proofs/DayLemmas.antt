@@ -1,14 +1,14 @@
 -- The year, the month and the day of the month of a day number, which are those of the calendar's day.
-use Rattle.std.proofs.Common.{◌≡◌, ℕ, zero, suc, ◌+◌, ◌-◌, ◌<◌, ◌≤◌, ◌⊎◌, inl, inr, Bool, true, false, refl, sym, ◌∙◌, ap, subst, arith, ℤ, pos, negsuc, neg_ℤ, ◌+ℤ◌, ◌-ℤ◌, ◌<ℤ◌, ◌≤ℤ◌, int_le, unsigned_abs}
+use Rattle.std.proofs.Common.{◌≡◌, ℕ, zero, suc, ◌+◌, ◌<◌, ◌≤◌, inl, inr, Bool, true, false, refl, sym, ◌∙◌, arith, ℤ, pos, negsuc, ◌+ℤ◌, ◌-ℤ◌, ◌<ℤ◌, ◌≤ℤ◌, int_le, unsigned_abs}
 use Rattle.std.proofs.lemmas.Bool.{cases_Bool, cases_order, both_ways}
 use Rattle.std.proofs.lemmas.Int.{ints}
 use Rattle.std.specs.Int.{IsInRange}
 use Rattle.jiff_core.specs.declared.civil.date.Date.{Date}
-use Rattle.jiff_core.specs.Calendar.{day_count, days_from_civil, days_in_month, days_in_year, IsEpochDay}
+use Rattle.jiff_core.specs.Calendar.{day_count, days_from_civil, days_in_month}
 use Rattle.jiff_core.specs.Date.{epoch_day}
 use Rattle.jiff_core.proofs.SignedLemmas.{signed_arith}
 use Rattle.jiff_core.proofs.MarchLemmas.{day_count-early}
-use Rattle.jiff_core.proofs.CalendarLemmas.{days_from_civil-day_count, day_count-later_year, day_count-next_year, day_count-next_month, day_count-last_of_year, day_count-day, day_count-end, day_count-day_of_year, days_in_month_bounds, days_in_year_bounds}
+use Rattle.jiff_core.proofs.CalendarLemmas.{days_from_civil-day_count, day_count-later_year, day_count-next_year, day_count-next_month, day_count-last_of_year, day_count-day, day_count-end, day_count-day_of_year, days_in_year_bounds}
 use Rattle.jiff_core.proofs.DateLemmas.{epoch_day_injective, epoch_day_range}
 use Rattle.cal_units.specs.Calendar.{IsDay, IsCalendarDay, count_to, year_of, month_of, day_of_month}
 
@@ -94,8 +94,8 @@ record HaveBegun (first : ℕ → ℤ) (s : ℤ) (n t : ℕ) : Type 0 where
 have_begun : (first : ℕ → ℤ) (s : ℤ) → ((k : ℕ) → 1 ≤ k → first k ≤ℤ first (suc k)) → (n : ℕ) → HaveBegun first s n (count_to (λ k. int_le (first k) s) n)
 have_begun first s order n =
     let back : (k : ℕ) → 1 ≤ k → int_le (first (suc k)) s ≡ true → int_le (first k) s ≡ true =
-        λ k low passes. let next = true-int_le (first (suc k)) s passes in
-        let before = order k low in int_le-true (first k) s (omega (arith, signed_arith)) in
+    λ k low passes. let next = true-int_le (first (suc k)) s passes in
+    let before = order k low in int_le-true (first k) s (omega (arith, signed_arith)) in
     let found = count_to_is (λ k. int_le (first k) s) back n in
     record {
       most = found.most;
@@ -191,7 +191,9 @@ parts_of s range =
 -- a calendar day as a date
 abbrev pub date_with : (y m d : ℕ) → IsCalendarDay y m d → Date
 date_with y m d h = record {
-  year = pos y; month = m; day = d;
+  year = pos y;
+  month = m;
+  day = d;
   year_in = omega (arith, signed_arith, h.0);
   month_in = h.1;
   day_in = h.2;

@@ -1,6 +1,6 @@
 -- Patterns, and the digits that stand where a pattern has them.
-use Rattle.std.proofs.Common.{◌≡◌, ℕ, zero, suc, ◌+◌, ◌-◌, ◌*◌, ◌/◌, ◌%◌, ◌^◌, ◌<◌, ◌≤◌, ◌≢◌, Bool, true, false, ◌&&◌, List, [], ◌∷◌, ◌++◌, length, take, drop, get_or, replicate, refl, sym, ◌∙◌, ap, subst, arith, add-one}
-use Rattle.std.proofs.lemmas.Bool.{and_parts, and_left, and_right, both_ways, not-true, false≢true}
+use Rattle.std.proofs.Common.{◌≡◌, ℕ, zero, suc, ◌+◌, ◌-◌, ◌*◌, ◌^◌, ◌<◌, ◌≤◌, ◌≢◌, Bool, true, false, ◌&&◌, List, [], ◌∷◌, length, take, drop, get_or, replicate, refl, ◌∙◌, arith}
+use Rattle.std.proofs.lemmas.Bool.{and_parts, and_right, false≢true}
 use Rattle.std.proofs.lemmas.Bool.Decides.{nat_tests}
 use Rattle.std.proofs.lemmas.List.{drop_all, length-take}
 use Rattle.std.proofs.lemmas.Int.Digits.{digits_value-lt, digits_value_more}
@@ -9,7 +9,7 @@ use Rattle.std.proofs.Math.Nat.{pow-le-pow_right}
 use Rattle.std.specs.Int.{IsInRange}
 use Rattle.std.specs.Char.{digit_value, is_ascii_digit}
 use Rattle.std.specs.Str.Parse.{AllDigits, digits_value}
-use Rattle.cal_units.specs.Digits.{fits_byte, fits, two_digits, four_digits}
+use Rattle.cal_units.specs.Digits.{fits_byte, fits}
 
 -- a text that fits has the pattern's length
 pub length-fits : (p t : List ℕ) → fits p t ≡ true → length t ≡ length p
@@ -44,7 +44,7 @@ fits-more (x ∷ p) [] i h k = absurd (omega arith)
 fits-more (x ∷ p) (c ∷ t) zero h k = refl
 fits-more (x ∷ p) (c ∷ t) (suc i) h k = let next : suc i + 1 ≡ suc (i + 1) = omega arith in rw next (fits-more p t i (omega arith) (omega arith))
 
-digit_is : (c : ℕ) → is_ascii_digit c ≡ true → digit_value c < 10
+pub digit_is : (c : ℕ) → is_ascii_digit c ≡ true → digit_value c < 10
 digit_is c h = grind (arith, nat_tests)
 
 fits_digit : (x c : ℕ) → x ≡ 100 → fits_byte x c ≡ true → digit_value c < 10

@@ -1,5 +1,5 @@
 -- Days and moments by number, on the calendar that ISO 8601 carries back to the year 1.
-use Rattle.std.specs.Prelude.{ℕ, zero, suc, ◌+◌, ◌*◌, ◌≤◌, Bool, if◌then◌else◌, ℤ, pos, neg_ℤ, ◌+ℤ◌, ◌-ℤ◌, int_le, unsigned_abs}
+use Rattle.std.specs.Prelude.{ℕ, zero, suc, ◌+◌, Bool, if◌then◌else◌, ℤ, pos, neg_ℤ, ◌+ℤ◌, ◌-ℤ◌, int_le, unsigned_abs}
 use Rattle.std.specs.Int.{IsInRange, int_div_euclid}
 use Rattle.jiff_core.specs.Calendar.{IsBetween, days_in_month, days_from_civil}
 

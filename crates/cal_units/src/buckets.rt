@@ -6,8 +6,11 @@ ghost use Rattle.cal_units.specs.Buckets.{IsDateUnit, IsDateBucket, IsMomentBuck
 use crate::dates::date_at;
 
 const DAY: i64 = 86_400_000;
+
 const HOUR: i64 = 3_600_000;
+
 const MINUTE: i64 = 60_000;
+
 const SECOND: i64 = 1_000;
 
 /// A unit that a date or a moment is rounded down to: a year, a month, a week from Monday, a day,

@@ -76,7 +76,11 @@ pub fn write_date(day: i32) -> [u8; 10]
     ensures read_back { date_of result ≡ Some day }
 {
     let parts = date_parts(day);
-    let (year, month, day) = (parts.year as u32, u32::from(parts.month), u32::from(parts.day));
+    let (year, month, day) = (
+        parts.year as u32,
+        u32::from(parts.month),
+        u32::from(parts.day),
+    );
     [
         last_digit(year / 1000),
         last_digit(year / 100),

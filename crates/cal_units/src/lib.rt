@@ -14,6 +14,8 @@ mod buckets;
 mod dates;
 mod digits;
 mod moments;
+#[cfg(test)]
+mod tests;
 
 pub use buckets::{Unit, bucket_date, bucket_moment};
 pub use dates::{DateParts, FIRST_DAY, LAST_DAY, NotADate, date_parts, read_date, write_date};

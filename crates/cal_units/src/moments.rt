@@ -1,9 +1,10 @@
-ghost use Rattle.std.specs.Prelude.{◌≡◌, ◌↔◌, ◌≤◌, ◌<◌, length, pos, neg_ℤ, take_while, IfOk, IfSome, IsSomeAnd, Some, None, Err};
+ghost use Rattle.std.specs.Prelude.{◌≡◌, ◌↔◌, ◌≤◌, ◌<◌, length, pos, neg_ℤ, slice_range, IfOk, IfSome, IsSomeAnd, Some, None, Err};
+ghost use Rattle.std.specs.List.{prefix_len};
 ghost use Rattle.std.specs.Char.{is_ascii_digit};
 ghost use Rattle.std.specs.Str.Parse.{AllDigits};
 ghost use Rattle.jiff_core.specs.Calendar.{IsWithin};
 ghost use Rattle.cal_units.specs.Calendar.{IsMoment};
-ghost use Rattle.cal_units.specs.MomentText.{clock_of, zone_of, tail_of, instant_of, moment_of, digits_millis};
+ghost use Rattle.cal_units.specs.MomentText.{clock_millis, clock_of, offset_of, zone_of, tail_of, instant_of, in_range, moment_of, fraction_millis, fraction_of};
 
 use crate::dates::read_date;
 use crate::digits::{fits, number};
@@ -15,8 +16,11 @@ pub const FIRST_MOMENT: i64 = -62_135_596_800_000;
 pub const LAST_MOMENT: i64 = 253_402_300_799_999;
 
 const DAY: i64 = 86_400_000;
+
 const HOUR: u32 = 3_600_000;
+
 const MINUTE: u32 = 60_000;
+
 const SECOND: u32 = 1_000;
 
 /// Why a text is no moment.
@@ -46,7 +50,9 @@ pub fn read_moment(text: &[u8]) -> Result<i64, MomentRefused>
     }
 }
 
+/// The moment itself, where it is in range.
 fn in_range(ms: i64) -> Result<i64, MomentRefused>
+    ensures { result ≡ in_range (Some ms) }
 {
     if FIRST_MOMENT <= ms && ms <= LAST_MOMENT {
         Ok(ms)
@@ -55,6 +61,7 @@ fn in_range(ms: i64) -> Result<i64, MomentRefused>
     }
 }
 
+/// The moment of a text of the form, in range or not.
 fn instant(text: &[u8]) -> Option<i64>
     ensures { result ≡ instant_of text.now }
 {
@@ -79,7 +86,15 @@ fn clock(text: &[u8]) -> Option<u32>
     }
     let hour = number(&text[1..3]);
     let minute = number(&text[4..6]);
-    let second = number(&text[7..]);
+    let second = number(&text[7..9]);
+    clock_millis(hour, minute, second)
+}
+
+/// The milliseconds since midnight of a time that a clock shows, with no leap second.
+fn clock_millis(hour: u32, minute: u32, second: u32) -> Option<u32>
+    ensures value { result ≡ clock_millis hour minute second }
+    ensures bound { IfSome result (λ ms. ms < 86_400_000) }
+{
     if hour > 23 || minute > 59 || second > 59 {
         return None;
     }
@@ -92,41 +107,52 @@ fn tail(text: &[u8]) -> Option<i64>
     ensures value { result ≡ tail_of text.now }
     ensures bound { IfSome result (IsWithin 86_400_999) }
 {
-    if text.first() != Some(&b'.') {
-        let ahead = zone(text)?;
-        return Some(-ahead);
+    if text.starts_with(b".") {
+        return fraction(&text[1..]);
     }
-    let digits = leading_digits(&text[1..]);
-    if digits.is_empty() || digits.len() > 9 {
-        return None;
-    }
-    let ahead = zone(&text[1 + digits.len()..])?;
-    Some(i64::from(millis(digits)) - ahead)
+    let ahead = zone(text)?;
+    Some(-ahead)
 }
 
-fn leading_digits(text: &[u8]) -> &[u8]
-    ensures digits { result.now ≡ take_while is_ascii_digit text.now }
-    ensures len { length result.now ≤ length text.now }
+/// The milliseconds of a fraction's digits, less those by which the zone after them is ahead.
+fn fraction(text: &[u8]) -> Option<i64>
+    ensures value { result ≡ fraction_of text.now }
+    ensures bound { IfSome result (IsWithin 86_400_999) }
 {
-    let len = text.iter().take_while(|byte| byte.is_ascii_digit()).count();
-    &text[..len]
+    let (digits, rest) = text.split_at(leading_digits(text));
+    let ms = fraction_millis(digits)?;
+    let ahead = zone(rest)?;
+    Some(i64::from(ms) - ahead)
 }
 
-/// The milliseconds of a fraction.
-fn millis(digits: &[u8]) -> u32
-    requires digits { AllDigits 10 digits.now }
-    requires some { 1 ≤ length digits.now }
-    ensures value { result ≡ digits_millis digits.now }
-    ensures bound { result < 1_000 }
+/// How many digits a text begins with.
+fn leading_digits(text: &[u8]) -> usize
+    ensures value { result ≡ prefix_len is_ascii_digit text.now }
+    ensures bound { result ≤ length text.now }
+{
+    for (i, byte) in text.iter().enumerate() {
+        if !byte.is_ascii_digit() {
+            return i;
+        }
+    }
+    text.len()
+}
+
+/// The milliseconds of a fraction's digits.
+fn fraction_millis(digits: &[u8]) -> Option<u32>
+    requires { AllDigits 10 digits.now }
+    ensures value { result ≡ fraction_millis digits.now }
+    ensures bound { IfSome result (λ ms. ms < 1_000) }
 {
     match digits.len() {
-        1 => number(digits) * 100,
-        2 => number(digits) * 10,
-        _ => number(&digits[..3]),
+        1 => Some(number(digits) * 100),
+        2 => Some(number(digits) * 10),
+        3..=9 => Some(number(&digits[..3])),
+        _ => None,
     }
 }
 
-/// The milliseconds by which a zone is ahead of UTC.
+/// The milliseconds by which the time of a zone is ahead of UTC.
 fn zone(text: &[u8]) -> Option<i64>
     ensures value { result ≡ zone_of text.now }
     ensures bound { IfSome result (IsWithin 86_400_000) }
@@ -134,15 +160,24 @@ fn zone(text: &[u8]) -> Option<i64>
     if fits(b"Z", text) {
         return Some(0);
     }
-    let is_ahead = fits(b"+dd:dd", text);
-    if !is_ahead && !fits(b"-dd:dd", text) {
-        return None;
+    if fits(b"+dd:dd", text) {
+        let ahead = offset(text)?;
+        return Some(i64::from(ahead));
     }
-    let hour = number(&text[1..3]);
-    let minute = number(&text[4..]);
-    if hour > 23 || minute > 59 {
-        return None;
+    if fits(b"-dd:dd", text) {
+        let behind = offset(text)?;
+        return Some(-i64::from(behind));
     }
-    let offset = i64::from(hour * HOUR + minute * MINUTE);
-    Some(if is_ahead { offset } else { -offset })
+    None
+}
+
+/// The milliseconds of the `hh:mm` that follows a sign.
+fn offset(text: &[u8]) -> Option<u32>
+    requires len { length text.now ≡ 6 }
+    requires hour { AllDigits 10 (slice_range text.now 1 3) }
+    requires minute { AllDigits 10 (slice_range text.now 4 6) }
+    ensures value { result ≡ offset_of text.now }
+    ensures bound { IfSome result (λ ms. ms < 86_400_000) }
+{
+    clock_millis(number(&text[1..3]), number(&text[4..6]), 0)
 }

@@ -2,7 +2,7 @@
 use Rattle.std.proofs.Common.{◌≡◌, pos, ap, ◌∙◌, arith, FitsSigned, w32}
 use Rattle.std.proofs.lemmas.Int.{to_z-of_z}
 use Rattle.jiff_core.proofs.SignedLemmas.{signed_arith}
-use Rattle.cal_units.specs.Calendar.{year_of, month_of, day_of_month}
+use Rattle.cal_units.specs.Calendar.{year_of}
 use Rattle.cal_units.proofs.DayLemmas.{parts_of}
 use Rattle.cal_units.proofs.dates.date_parts.Goals as goal
 

@@ -1,5 +1,5 @@
 -- `jiff` has the day exactly where the calendar does.
-use Rattle.std.proofs.Common.{◌≡◌, pos, sym, ap, ◌∙◌, arith, w32, w16, w8, Some, of_z, to_z}
+use Rattle.std.proofs.Common.{◌≡◌, pos, sym, ap, ◌∙◌, arith, w32, Some, of_z, to_z}
 use Rattle.jiff_core.proofs.SignedLemmas.{signed_casts}
 use Rattle.jiff_core.specs.Date.{epoch_day}
 use Rattle.cal_units.proofs.DateTextLemmas.{day_number-date}

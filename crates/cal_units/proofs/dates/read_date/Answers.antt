@@ -1,8 +1,6 @@
 -- A text of the form has digits where its numbers stand.
-use Rattle.std.proofs.Common.{◌≡◌, sym, ◌∙◌, refl, ap, true, false, codes}
+use Rattle.std.proofs.Common.{sym, ◌∙◌, refl, ap, codes}
 use Rattle.std.specs.Result.{result_ok}
-use Rattle.cal_units.specs.Digits.{fits}
-use Rattle.cal_units.specs.DateText.{date_of}
 use Rattle.cal_units.proofs.DigitLemmas.{digits_at}
 use Rattle.cal_units.proofs.DateTextLemmas.{result_ok-ok_or, read_range, read_text, date_of-form, date_of-no_form}
 use Rattle.cal_units.proofs.dates.read_date.Goals as goal

@@ -1,12 +1,12 @@
 -- Each byte is the digit of the text.
-use Rattle.std.proofs.Common.{◌≡◌, pos, ap, ◌∙◌, arith, FitsSigned, w32}
+use Rattle.std.proofs.Common.{pos, ap, ◌∙◌, arith, FitsSigned, w32}
 use Rattle.std.proofs.lemmas.Int.{to_z-of_z}
 use Rattle.jiff_core.proofs.SignedLemmas.{signed_casts}
 use Rattle.jiff_core.proofs.CalendarLemmas.{days_in_month_bounds}
-use Rattle.cal_units.specs.Calendar.{year_of, month_of, day_of_month}
+use Rattle.cal_units.specs.Calendar.{year_of, month_of}
 use Rattle.cal_units.specs.DateText.{date_of}
 use Rattle.cal_units.proofs.DayLemmas.{parts_of}
-use Rattle.cal_units.proofs.DateTextLemmas.{date_text_is, AreDigitsOf, date_of-date_text}
+use Rattle.cal_units.proofs.DateTextLemmas.{date_text_is, date_of-date_text}
 use Rattle.cal_units.proofs.dates.write_date.Goals as goal
 
 pub returns-clause-text : goal.returns-clause-text

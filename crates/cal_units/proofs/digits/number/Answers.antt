@@ -3,7 +3,7 @@ use Rattle.std.proofs.Common.{sym, ◌∙◌, ap, arith}
 use Rattle.std.specs.Str.Parse.{digits_value}
 use Rattle.std.proofs.lemmas.List.{take_all}
 use Rattle.std.proofs.lemmas.Int.Digits.{digits_value-lt}
-use Rattle.cal_units.proofs.DigitLemmas.{number_step, IsNumberStep}
+use Rattle.cal_units.proofs.DigitLemmas.{number_step}
 use Rattle.cal_units.proofs.digits.number.Goals as goal
 
 pub overflow_mul-number : goal.overflow_mul-number
