@@ -1,0 +1,5 @@
+pub mod BucketLemmas
+pub mod DateTextLemmas
+pub mod DayLemmas
+pub mod DigitLemmas
+pub mod MomentTextLemmas

@@ -1,0 +1,21 @@
+-- The calendar has one date of a day number.
+use Rattle.std.proofs.Common.{◌≡◌, rules, pos}
+use Rattle.jiff_core.specs.Date.{epoch_day}
+use Rattle.cal_units.specs.Calendar.{year_of, month_of, day_of_month}
+use Rattle.cal_units.proofs.DayLemmas.{date_is}
+use Rattle.cal_units.proofs.dates.date_at.Goals as goal
+
+number : (c : goal.After-from_plain) → epoch_day c.from_plain.result ≡ c.args.day
+number c = search rules
+
+parts : (c : goal.After-from_plain) → (c.from_plain.result.year ≡ pos (year_of c.args.day)) × (c.from_plain.result.month ≡ month_of c.args.day) × (c.from_plain.result.day ≡ day_of_month c.args.day)
+parts c = date_is c.from_plain.result c.args.day c.requires (number c)
+
+pub returns-clause-year : goal.returns-clause-year
+returns-clause-year c = (parts c).0
+
+pub returns-clause-month : goal.returns-clause-month
+returns-clause-month c = (parts c).1
+
+pub returns-clause-day : goal.returns-clause-day
+returns-clause-day c = (parts c).2

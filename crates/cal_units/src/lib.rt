@@ -1,0 +1,22 @@
+//! Dates, moments and their texts, and the buckets of years, months, weeks, days, hours, minutes
+//! and seconds that they fall into.
+//!
+//! A date is a day number, counted from 1970-01-01, and a moment is whole milliseconds since
+//! 1970-01-01T00:00:00Z; both lie on the days from 0001-01-01 to 9999-12-31 of the calendar of
+//! ISO 8601. Calendar arithmetic is `jiff`'s.
+//!
+//! Its callers may rely on this: each text is read exactly, with the day or moment that the
+//! definitions `date_of` and `moment_of` give; a date that was written is read back; a bucket is
+//! the greatest start of its unit that is not later. No call takes memory.
+#![tactic(auto)]
+
+mod buckets;
+mod dates;
+mod digits;
+mod moments;
+#[cfg(test)]
+mod tests;
+
+pub use buckets::{Unit, bucket_date, bucket_moment};
+pub use dates::{DateParts, FIRST_DAY, LAST_DAY, NotADate, date_parts, read_date, write_date};
+pub use moments::{FIRST_MOMENT, LAST_MOMENT, MomentRefused, read_moment};
