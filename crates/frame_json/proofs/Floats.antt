@@ -1,0 +1,132 @@
+-- A reply has no float in it.
+use Rattle.std.proofs.Common.{◌≡◌, ℕ, ℤ, pos, negsuc, List, [], ◌∷◌, Bool, true, false, ◌||◌, cond, map, Ordering, Less, Equal, Greater, nat_cmp, codes, refl}
+use Rattle.std.specs.Cmp.Lexicographic.{slice_cmp}
+use Rattle.std.specs.Fmt.{signed_decimal}
+use Rattle.std.specs.Ordering.{match_ordering}
+use Rattle.serde_json.specs.Data.{Data, string, Members, no_members, member, put}
+use Rattle.serde_json.specs.View.{items_of}
+use Rattle.serde_json.specs.Written.{has_float, items_have_float, members_have_float}
+use Rattle.value_core.specs.declared.value.Value.{Value}
+use Rattle.value_core.specs.declared.value.Value.TheVariants as value
+use Rattle.cell_core.specs.declared.cell.Cell.{Cell}
+use Rattle.cell_core.specs.declared.cell.Cell.TheVariants as cell
+use Rattle.cell_core.specs.declared.schema.Numbers.{Numbers}
+use Rattle.cell_core.specs.declared.schema.Numbers.TheVariants as numbers
+use Rattle.view_types.specs.declared.key.ViewKey.{ViewKey}
+use Rattle.view_types.specs.declared.key.ViewKey.TheVariants as key
+use Rattle.view_types.specs.declared.shown.HeaderColumn.{HeaderColumn}
+use Rattle.view_types.specs.declared.shown.ShownRow.{ShownRow}
+use Rattle.frame_types.specs.declared.reply.Body.{Body}
+use Rattle.frame_types.specs.declared.reply.Body.TheVariants as body
+use Rattle.frame_types.specs.declared.reply.Reply.{Reply}
+use Rattle.frame_json.specs.Replies.{integer, pair, triple, tagged, is_exact, whole_data, date_data, moment_data, value_data, part_data, column_data, header_data, with_cells, cells_data, keyed_data, row_data, rows_data, lost_view, lost_data, at_items, body_data, reply_data}
+
+abbrev Free : Data → Type 0
+Free d = has_float d ≡ false
+
+abbrev AreFree : Members → Type 0
+AreFree ms = members_have_float ms ≡ false
+
+integer-free : (z : ℤ) → Free (integer z)
+integer-free (pos n) = refl
+integer-free (negsuc n) = refl
+
+pair-free : (a b : Data) → Free a → Free b → Free (pair a b)
+pair-free a b p q = rw (p, q)
+
+triple-free : (a b c : Data) → Free a → Free b → Free c → Free (triple a b c)
+triple-free a b c p q r = rw (p, q, r)
+
+items-free : {X : Type 0} (f : X → Data) → ((x : X) → Free (f x)) → (xs : List X) → items_have_float (items_of (map f xs)) ≡ false
+items-free f free [] = refl
+items-free f free (x ∷ xs) = rw (free x) (items-free f free xs)
+
+-- ---- values
+
+whole_by : (b : Bool) (z : ℤ) → Free (cond b (integer z) (tagged (codes "i") (string (signed_decimal z))))
+whole_by true z = integer-free z
+whole_by false z = refl
+
+whole-free : (z : ℤ) → Free (whole_data z)
+whole-free z = whole_by (is_exact z) z
+
+date-free : (day : ℤ) → Free (date_data day)
+date-free day = pair-free (string (codes "d")) (integer day) refl (integer-free day)
+
+moment-free : (ms : ℤ) → Free (moment_data ms)
+moment-free ms = pair-free (string (codes "t")) (integer ms) refl (integer-free ms)
+
+value-free : (v : Value) → Free (value_data v)
+value-free (value.Bool b) = refl
+value-free (value.Whole z) = whole-free z
+value-free (value.Fraction f) = pair-free (whole_data f.n) (whole_data f.d) (whole-free f.n) (whole-free f.d)
+value-free (value.Date day) = date-free day
+value-free (value.Moment ms) = moment-free ms
+value-free (value.Words s) = refl
+
+part-free : (c : Cell) → Free (part_data c)
+part-free cell.Null = refl
+part-free (cell.Bool b) = refl
+part-free (cell.Int z) = integer-free z
+part-free (cell.Date day) = date-free day
+part-free (cell.Moment ms) = moment-free ms
+part-free (cell.Words s) = refl
+
+-- ---- members
+
+both_false : (a b : Bool) → (a || b) ≡ false → (a ≡ false) × (b ≡ false)
+both_false true b h = cc
+both_false false b h = (refl, h)
+
+chosen-free : (o : Ordering) (a b c : Members) → AreFree a → AreFree b → AreFree c → AreFree (match_ordering o a b c)
+chosen-free Less a b c p q r = p
+chosen-free Equal a b c p q r = q
+chosen-free Greater a b c p q r = r
+
+put-free : (k : List ℕ) (d : Data) (ms : Members) → Free d → AreFree ms → AreFree (put k d ms)
+put-free k d no_members p q = rw p
+put-free k d (member l e ms) p q =
+    let parts = both_false (has_float e) (members_have_float ms) q in
+    chosen-free (slice_cmp nat_cmp k l) _ _ _ (rw p q) (rw p parts.1) (rw parts.0 (put-free k d ms p parts.1))
+
+cells-free : (ms : Members) (cells : List (List ℕ × Value)) → AreFree ms → AreFree (with_cells ms cells)
+cells-free ms [] h = h
+cells-free ms (c ∷ cells) h = cells-free (put c.0 (value_data c.1) ms) cells (put-free c.0 (value_data c.1) ms (value-free c.1) h)
+
+-- ---- headers and rows
+
+header-free : (cs : List HeaderColumn) → Free (header_data cs)
+header-free cs = items-free column_data (λ c. refl) cs
+
+keyed-free : (k : ViewKey) (mark : Bool) (cells : Data) → Free cells → Free (keyed_data k mark cells)
+keyed-free (key.Row c) mark cells h = rw (part-free c, h)
+keyed-free (key.Group path) mark cells h = rw (items-free part_data part-free path, h)
+
+row-free : (r : ShownRow) → Free (row_data r)
+row-free r = keyed-free r.key r.mark (cells_data r.cells) (cells-free no_members r.cells refl)
+
+rows-free : (rs : List ShownRow) → Free (rows_data rs)
+rows-free rs = items-free row_data row-free rs
+
+-- ---- replies
+
+lost-free : (vs : List (ℕ × ℕ)) → Free (lost_data vs)
+lost-free vs = items-free lost_view (λ v. refl) vs
+
+at-free : (at : Numbers) → items_have_float (at_items at) ≡ false
+at-free numbers.Zero = refl
+at-free (numbers.One a) = refl
+at-free (numbers.Two a b) = refl
+
+body-free : (n version : ℕ) (b : Body) → Free (body_data n version b)
+body-free n version body.Table = refl
+body-free n version (body.Port port) = refl
+body-free n version (body.Queued port seq) = refl
+body-free n version (body.Applied port seq) = refl
+body-free n version (body.AppliedLosing lost port seq) = rw (lost-free lost)
+body-free n version (body.Opened edit shown view) = rw (header-free shown.header, rows-free shown.rows)
+body-free n version (body.Rows edit first shown size view) = rw (header-free shown.header, rows-free shown.rows)
+body-free n version (body.Refused r) = rw (at-free r.at)
+
+pub has_float-reply_data : (r : Reply) → has_float (reply_data r) ≡ false
+has_float-reply_data r = body-free r.n r.version r.body

@@ -1,0 +1,5 @@
+mod Texts
+mod Members
+mod Columns
+mod Floats
+mod Pairs

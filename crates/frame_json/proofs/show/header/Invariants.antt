@@ -1,0 +1,7 @@
+use Rattle.std.proofs.Common.{◌≡◌, map, take}
+use Rattle.serde_json.specs.View.{view}
+use Rattle.frame_json.specs.Replies.{column_data}
+use Rattle.frame_json.proofs.show.header.Given as goal
+
+abbrev pub invariant-loop-item : goal.invariant-loop-item
+invariant-loop-item l = map view l.found.items ≡ map column_data (take l.item-index l.columns)

@@ -1,0 +1,195 @@
+ghost use Rattle.std.specs.Prelude.{◌≡◌, IfOk};
+ghost use Rattle.serde_json.specs.View.{view, items_view};
+ghost use Rattle.frame_types.specs.Refusals.{cause_text};
+ghost use Rattle.frame_json.specs.Replies.{lost_view, lost_data, at_items, table_reply, port_reply, batch_reply, losing_reply, opened_reply, rows_reply, refused_reply, reply_data};
+
+use crate::show::{header, pair, rows, words};
+use cell_core::{Memory, Numbers};
+use frame_types::{Body, Cause, Refusal, Reply};
+use serde_json::{Map, Value, json, put};
+use std::alloc::Global;
+
+fn cause_name(cause: Cause) -> &'static str
+    ensures { result.now ≡ cause_text cause }
+{
+    match cause {
+        Cause::Json => "json",
+        Cause::Unbuilt => "unbuilt",
+        Cause::HistoryFull => "history full",
+        Cause::Empty => "empty",
+        Cause::NoTable => "no table",
+        Cause::Memory => "memory",
+    }
+}
+
+fn numbers(alloc: Global, at: Numbers) -> Result<Vec<Value>, Memory>
+    ensures { IfOk result (λ v. items_view v.items ≡ at_items at) }
+{
+    let mut found = Vec::new(alloc);
+    match at {
+        Numbers::Zero => {}
+        Numbers::One(a) => found.push(Value::from(a))?,
+        Numbers::Two(a, b) => {
+            found.push(Value::from(a))?;
+            found.push(Value::from(b))?;
+        }
+    }
+    Ok(found)
+}
+
+fn lost_one(alloc: Global, lost: &(u32, u64)) -> Result<Value, Memory>
+    ensures { IfOk result (λ v. view v ≡ lost_view lost.now) }
+{
+    pair(alloc, Value::from(lost.0 as u64), Value::from(lost.1))
+}
+
+fn lost_views(alloc: Global, lost: &[(u32, u64)]) -> Result<Value, Memory>
+    ensures { IfOk result (λ v. view v ≡ lost_data lost.now) }
+{
+    let mut found = Vec::new(alloc);
+    for item in lost {
+        found.push(lost_one(alloc, item)?)?;
+    }
+    Ok(Value::Array(found))
+}
+
+fn table(alloc: Global, n: u64, version: u64) -> Result<Value, Memory>
+    ensures { IfOk result (λ v. view v ≡ table_reply n version) }
+{
+    Ok(json!(in alloc; {"is": "table", "n": n, "version": version})?)
+}
+
+fn port(alloc: Global, n: u64, version: u64, port: u64) -> Result<Value, Memory>
+    ensures { IfOk result (λ v. view v ≡ port_reply n version port) }
+{
+    Ok(json!(in alloc; {"is": "port", "n": n, "port": port, "version": version})?)
+}
+
+fn batch(
+    alloc: Global,
+    is: &str,
+    n: u64,
+    version: u64,
+    port: u64,
+    seq: u64,
+) -> Result<Value, Memory>
+    ensures { IfOk result (λ v. view v ≡ batch_reply is.now n version port seq) }
+{
+    Ok(json!(in alloc; {"is": is, "n": n, "port": port, "seq": seq, "version": version})?)
+}
+
+fn losing(
+    alloc: Global,
+    n: u64,
+    version: u64,
+    lost: Value,
+    port: u64,
+    seq: u64,
+) -> Result<Value, Memory>
+    ensures { IfOk result (λ v. view v ≡ losing_reply n version (view lost) port seq) }
+{
+    let mut found = Map::new(alloc);
+    put(&mut found, alloc, "is", words(alloc, "applied_losing")?)?;
+    put(&mut found, alloc, "lost", lost)?;
+    put(&mut found, alloc, "n", Value::from(n))?;
+    put(&mut found, alloc, "port", Value::from(port))?;
+    put(&mut found, alloc, "seq", Value::from(seq))?;
+    put(&mut found, alloc, "version", Value::from(version))?;
+    Ok(Value::Object(found))
+}
+
+fn opened(
+    alloc: Global,
+    n: u64,
+    version: u64,
+    edit: u64,
+    header: Value,
+    rows: Value,
+    view_number: u64,
+) -> Result<Value, Memory>
+    ensures { IfOk result (λ v. view v
+        ≡ opened_reply n version edit (view header) (view rows) view_number) }
+{
+    let mut found = Map::new(alloc);
+    put(&mut found, alloc, "edit", Value::from(edit))?;
+    put(&mut found, alloc, "header", header)?;
+    put(&mut found, alloc, "is", words(alloc, "opened")?)?;
+    put(&mut found, alloc, "n", Value::from(n))?;
+    put(&mut found, alloc, "rows", rows)?;
+    put(&mut found, alloc, "version", Value::from(version))?;
+    put(&mut found, alloc, "view", Value::from(view_number))?;
+    Ok(Value::Object(found))
+}
+
+fn shown_rows(
+    alloc: Global,
+    n: u64,
+    version: u64,
+    edit: u64,
+    from: u64,
+    header: Value,
+    rows: Value,
+    size: u64,
+    view_number: u64,
+) -> Result<Value, Memory>
+    ensures { IfOk result (λ v. view v
+        ≡ rows_reply n version edit from (view header) (view rows) size view_number) }
+{
+    let mut found = Map::new(alloc);
+    put(&mut found, alloc, "edit", Value::from(edit))?;
+    put(&mut found, alloc, "from", Value::from(from))?;
+    put(&mut found, alloc, "header", header)?;
+    put(&mut found, alloc, "is", words(alloc, "rows")?)?;
+    put(&mut found, alloc, "n", Value::from(n))?;
+    put(&mut found, alloc, "rows", rows)?;
+    put(&mut found, alloc, "size", Value::from(size))?;
+    put(&mut found, alloc, "version", Value::from(version))?;
+    put(&mut found, alloc, "view", Value::from(view_number))?;
+    Ok(Value::Object(found))
+}
+
+fn refused(alloc: Global, n: u64, version: u64, refusal: Refusal) -> Result<Value, Memory>
+    ensures { IfOk result (λ v. view v ≡ refused_reply n version refusal) }
+{
+    let at = numbers(alloc, refusal.at)?;
+    let cause = cause_name(refusal.cause);
+    Ok(json!(in alloc; {
+        "at": at, "cause": cause, "code": refusal.code, "is": "refused", "n": n,
+        "version": version
+    })?)
+}
+
+/// The reply as a JSON value.
+pub(crate) fn value_of_reply(alloc: Global, reply: &Reply) -> Result<Value, Memory>
+    ensures { IfOk result (λ v. view v ≡ reply_data reply.now) }
+{
+    let n = reply.n;
+    let version = reply.version;
+    match &reply.body {
+        Body::Table => table(alloc, n, version),
+        Body::Port { port: number } => port(alloc, n, version, *number),
+        Body::Queued { port, seq } => batch(alloc, "queued", n, version, *port, *seq),
+        Body::Applied { port, seq } => batch(alloc, "applied", n, version, *port, *seq),
+        Body::AppliedLosing { lost, port, seq } => {
+            let lost = lost_views(alloc, lost.as_slice())?;
+            losing(alloc, n, version, lost, *port, *seq)
+        }
+        Body::Opened { edit, shown, view } => {
+            let header = header(alloc, shown.header.as_slice())?;
+            let rows = rows(alloc, shown.rows.as_slice())?;
+            opened(alloc, n, version, *edit, header, rows, *view)
+        }
+        Body::Rows {
+            edit,
+            from,
+            shown,
+            size,
+            view,
+        } => {
+            let header = header(alloc, shown.header.as_slice())?;
+            let rows = rows(alloc, shown.rows.as_slice())?;
+            shown_rows(alloc, n, version, *edit, *from, header, rows, *size, *view)
+        }
+        Body::Refused(refusal) => refused(alloc, n, version, *refusal),
+    }
+}

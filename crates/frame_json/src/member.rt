@@ -1,0 +1,137 @@
+ghost use Rattle.std.specs.Prelude.{◌≡◌, IfOk, codes, option_map};
+ghost use Rattle.std.specs.List.{list_all};
+ghost use Rattle.serde_json.specs.Find.{get_member};
+ghost use Rattle.serde_json.specs.View.{view, items_view, members_view};
+ghost use Rattle.frame_json.specs.Requests.{natural_of, natural, words, bound_of, words_of, pair_of, column_of, columns_of, built, is_built, columns};
+
+use cell_core::{ColumnWords, Columns, Listed, Memory, Text};
+use serde_json::{Map, Value};
+use std::alloc::Global;
+
+/// The greatest `bound`, which is also the one that is left out.
+const MAX_BOUND: u64 = 65536;
+
+/// The members of an object.
+pub(crate) type Members = Map<String, Value>;
+
+/// The value of the member of that name.
+pub(crate) fn member<'m>(members: &'m Members, name: &str) -> Option<&'m Value>
+    ensures { option_map (λ v. view v.now) result
+        ≡ get_member name.now (members_view members.now.entries) }
+{
+    members.get(name)
+}
+
+/// The same, where the other members are not needed any more.
+pub(crate) fn taken(members: Members, name: &str) -> Option<Value>
+    ensures { option_map view result ≡ get_member name.now (members_view members.entries) }
+{
+    let mut members = members;
+    members.remove(name)
+}
+
+/// A whole number that is at least 0.
+fn natural_in(value: &Value) -> Option<u64>
+    ensures { result ≡ natural_of (view value.now) }
+{
+    let whole = value.as_i64()?;
+    if whole < 0 { None } else { Some(whole as u64) }
+}
+
+pub(crate) fn natural_at(members: &Members, name: &str) -> Option<u64>
+    ensures { result ≡ natural name.now (members_view members.now.entries) }
+{
+    natural_in(member(members, name)?)
+}
+
+/// The `bound` of an `open`, which may be left out.
+pub(crate) fn bound_at(members: &Members) -> Option<u64>
+    ensures { result ≡ bound_of (get_member (codes "bound") (members_view members.now.entries)) }
+{
+    let Some(value) = member(members, "bound") else {
+        return Some(MAX_BOUND);
+    };
+    let bound = natural_in(value)?;
+    if bound <= MAX_BOUND { Some(bound) } else { None }
+}
+
+pub(crate) fn words_at<'m>(members: &'m Members, name: &str) -> Option<&'m str>
+    ensures { option_map (λ s. s.now) result
+        ≡ words name.now (members_view members.now.entries) }
+{
+    member(members, name).and_then(Value::as_str)
+}
+
+fn column_words(alloc: Global, name: &Value, kind: &Value) -> Result<Option<ColumnWords>, Memory>
+    ensures { IfOk result (λ found. found ≡ words_of (view name.now) (view kind.now)) }
+{
+    let (Some(name), Some(kind)) = (name.as_str(), kind.as_str()) else {
+        return Ok(None);
+    };
+    Ok(Some(ColumnWords {
+        name: Text::from_str(alloc, name)?,
+        kind: Text::from_str(alloc, kind)?,
+    }))
+}
+
+fn column_pair(alloc: Global, items: &[Value]) -> Result<Option<ColumnWords>, Memory>
+    ensures { IfOk result (λ found. found ≡ pair_of (items_view items.now)) }
+{
+    if items.len() != 2 {
+        return Ok(None);
+    }
+    column_words(alloc, &items[0], &items[1])
+}
+
+fn column(alloc: Global, value: &Value) -> Result<Option<ColumnWords>, Memory>
+    ensures { IfOk result (λ found. found ≡ column_of (view value.now)) }
+{
+    match value.as_array() {
+        Some(items) => column_pair(alloc, items.as_slice()),
+        None => Ok(None),
+    }
+}
+
+fn columns_in(alloc: Global, values: &[Value]) -> Result<Option<Columns>, Memory>
+    ensures { IfOk result (λ found. found ≡ columns_of (items_view values.now)) }
+{
+    let mut found = Vec::new(alloc);
+    for value in values {
+        match column(alloc, value)? {
+            Some(column) => found.push(column)?,
+            None => return Ok(None),
+        }
+    }
+    Ok(Some(Listed::from_vec(found)))
+}
+
+fn are_built(columns: &[ColumnWords]) -> bool
+    ensures { result ≡ list_all is_built columns.now }
+{
+    columns
+        .iter()
+        .all(|column| column.kind.as_str() == "integer")
+}
+
+fn if_built(columns: Columns) -> Option<Columns>
+    ensures { result ≡ built columns }
+{
+    if are_built(columns.as_slice()) {
+        Some(columns)
+    } else {
+        None
+    }
+}
+
+/// The columns of a table, each of a type that is built.
+pub(crate) fn columns_at(alloc: Global, members: &Members) -> Result<Option<Columns>, Memory>
+    ensures { IfOk result (λ found. found ≡ columns (members_view members.now.entries)) }
+{
+    let Some(items) = member(members, "columns").and_then(Value::as_array) else {
+        return Ok(None);
+    };
+    match columns_in(alloc, items.as_slice())? {
+        Some(columns) => Ok(if_built(columns)),
+        None => Ok(None),
+    }
+}

@@ -1,0 +1,162 @@
+ghost use Rattle.std.specs.Prelude.{◌≡◌, [], IfOk, map};
+ghost use Rattle.serde_json.specs.Data.{no_members, string};
+ghost use Rattle.serde_json.specs.View.{view, members_view};
+ghost use Rattle.frame_json.specs.Replies.{pair as pair_data, triple as triple_data, tagged as tagged_data, whole_data, fraction_data, date_data, moment_data, value_data, part_data, row_key as row_key_data, group_key as group_key_data, column_data, header_data, with_cells, cells_data, row_data, rows_data};
+
+use cell_core::{Cell, Fraction, Memory, Value as ShownValue};
+use serde_json::{Map, Value, json, put};
+use std::alloc::Global;
+use view_types::{HeaderColumn, ShownCells, ShownRow, ViewKey};
+
+/// The greatest whole number that is written as a number, 2^53-1.
+const MAX_EXACT: i128 = 9007199254740991;
+
+pub(crate) fn words(alloc: Global, text: &str) -> Result<Value, Memory>
+    ensures { IfOk result (λ v. view v ≡ string text.now) }
+{
+    Ok(Value::try_from_str(alloc, text)?)
+}
+
+pub(crate) fn pair(alloc: Global, first: Value, second: Value) -> Result<Value, Memory>
+    ensures { IfOk result (λ v. view v ≡ pair_data (view first) (view second)) }
+{
+    Ok(json!(in alloc; [first, second])?)
+}
+
+fn triple(alloc: Global, first: Value, second: Value, third: Value) -> Result<Value, Memory>
+    ensures { IfOk result (λ v. view v ≡ triple_data (view first) (view second) (view third)) }
+{
+    Ok(json!(in alloc; [first, second, third])?)
+}
+
+/// A value under a letter that tells its kind.
+fn tagged(alloc: Global, letter: &str, value: Value) -> Result<Value, Memory>
+    ensures { IfOk result (λ v. view v ≡ tagged_data letter.now (view value)) }
+{
+    pair(alloc, words(alloc, letter)?, value)
+}
+
+fn whole_number(alloc: Global, number: i128) -> Result<Value, Memory>
+    ensures { IfOk result (λ v. view v ≡ whole_data number) }
+{
+    if -MAX_EXACT <= number && number <= MAX_EXACT {
+        return Ok(Value::from(number as i64));
+    }
+    let digits = number.to_string(alloc)?;
+    tagged(alloc, "i", Value::from(digits))
+}
+
+fn fraction(alloc: Global, fraction: &Fraction) -> Result<Value, Memory>
+    ensures { IfOk result (λ v. view v ≡ fraction_data fraction.now) }
+{
+    let numerator = whole_number(alloc, fraction.n)?;
+    let denominator = whole_number(alloc, fraction.d)?;
+    pair(alloc, numerator, denominator)
+}
+
+fn date(alloc: Global, day: i32) -> Result<Value, Memory>
+    ensures { IfOk result (λ v. view v ≡ date_data day) }
+{
+    tagged(alloc, "d", Value::from(day as i64))
+}
+
+fn moment(alloc: Global, time: i64) -> Result<Value, Memory>
+    ensures { IfOk result (λ v. view v ≡ moment_data time) }
+{
+    tagged(alloc, "t", Value::from(time))
+}
+
+fn value_of(alloc: Global, value: &ShownValue) -> Result<Value, Memory>
+    ensures { IfOk result (λ v. view v ≡ value_data value.now) }
+{
+    match value {
+        ShownValue::Bool(truth) => Ok(Value::from(*truth)),
+        ShownValue::Whole(number) => whole_number(alloc, *number),
+        ShownValue::Fraction(number) => fraction(alloc, number),
+        ShownValue::Date(day) => date(alloc, *day),
+        ShownValue::Moment(time) => moment(alloc, *time),
+        ShownValue::Words(text) => words(alloc, text.as_str()),
+    }
+}
+
+fn part(alloc: Global, cell: &Cell) -> Result<Value, Memory>
+    ensures { IfOk result (λ v. view v ≡ part_data cell.now) }
+{
+    match cell {
+        Cell::Null => Ok(Value::Null),
+        Cell::Bool(truth) => Ok(Value::from(*truth)),
+        Cell::Int(number) => Ok(Value::from(*number)),
+        Cell::Date(day) => date(alloc, *day),
+        Cell::Moment(time) => moment(alloc, *time),
+        Cell::Words(text) => words(alloc, text.as_str()),
+    }
+}
+
+fn group_key(alloc: Global, path: &[Cell]) -> Result<Value, Memory>
+    ensures { IfOk result (λ v. view v ≡ group_key_data path.now) }
+{
+    let mut found = Vec::new(alloc);
+    found.push(words(alloc, "g")?)?;
+    for cell in path {
+        found.push(part(alloc, cell)?)?;
+    }
+    Ok(Value::Array(found))
+}
+
+fn row_key(alloc: Global, cell: &Cell) -> Result<Value, Memory>
+    ensures { IfOk result (λ v. view v ≡ row_key_data cell.now) }
+{
+    tagged(alloc, "r", part(alloc, cell)?)
+}
+
+fn column(alloc: Global, column: &HeaderColumn) -> Result<Value, Memory>
+    ensures { IfOk result (λ v. view v ≡ column_data column.now) }
+{
+    let text = words(alloc, column.text.as_str())?;
+    let kind = words(alloc, column.kind.name())?;
+    pair(alloc, text, kind)
+}
+
+pub(crate) fn header(alloc: Global, columns: &[HeaderColumn]) -> Result<Value, Memory>
+    ensures { IfOk result (λ v. view v ≡ header_data columns.now) }
+{
+    let mut found = Vec::new(alloc);
+    for item in columns {
+        found.push(column(alloc, item)?)?;
+    }
+    Ok(Value::Array(found))
+}
+
+fn cells(alloc: Global, cells: &ShownCells) -> Result<Value, Memory>
+    ensures { IfOk result (λ v. view v ≡ cells_data cells.now) }
+{
+    let mut found = Map::new(alloc);
+    for (column, value) in cells.entries().iter() {
+        let value = value_of(alloc, value)?;
+        put(&mut found, alloc, column.as_str(), value)?;
+    }
+    Ok(Value::Object(found))
+}
+
+fn row(alloc: Global, row: &ShownRow) -> Result<Value, Memory>
+    ensures { IfOk result (λ v. view v ≡ row_data row.now) }
+{
+    let cells = cells(alloc, &row.cells)?;
+    match &row.key {
+        ViewKey::Row(cell) => pair(alloc, row_key(alloc, cell)?, cells),
+        ViewKey::Group(path) => {
+            let key = group_key(alloc, path.as_slice())?;
+            triple(alloc, key, Value::from(row.mark), cells)
+        }
+    }
+}
+
+pub(crate) fn rows(alloc: Global, rows: &[ShownRow]) -> Result<Value, Memory>
+    ensures { IfOk result (λ v. view v ≡ rows_data rows.now) }
+{
+    let mut found = Vec::new(alloc);
+    for item in rows {
+        found.push(row(alloc, item)?)?;
+    }
+    Ok(Value::Array(found))
+}
