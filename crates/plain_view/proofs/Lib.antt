@@ -1,0 +1,5 @@
+pub mod CellLaws
+pub mod DistinctLaws
+pub mod PlaceLaws
+pub mod RowLaws
+pub mod SortLaws
