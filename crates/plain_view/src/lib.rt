@@ -7,5 +7,9 @@
 
 mod cells;
 mod flat;
+mod laws;
+#[cfg(test)]
+mod tests;
 
 pub use flat::{show, show_window};
+pub use laws::order_of_rows_is_free;
