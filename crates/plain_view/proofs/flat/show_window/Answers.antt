@@ -1,0 +1,17 @@
+use Rattle.std.proofs.Common.{◌≡◌, map, ap, ◌∙◌}
+use Rattle.plain_data.specs.Sorting.{sorted_by}
+use Rattle.row_batch.specs.declared.batch.Pair.{Pair}
+use Rattle.plain_view.specs.Flat.{by_place, cells_of, header_column}
+use Rattle.plain_view.proofs.RowLaws.{same_shown, window_from_entries}
+use Rattle.plain_view.proofs.flat.show_window.Goals as goal
+
+pub returns-clause-shown : goal.returns-clause-shown
+returns-clause-shown c =
+    let columns = c.args.schema.now.columns in
+    let pairs = c.args.pairs.now in
+    let entries = c.in_ok-by_key.by_key.entries in
+    let made : entries ≡ map (λ (p : Pair). (p.key, cells_of columns p.row)) (sorted_by by_place pairs) =
+    c.in_ok-by_key.ensures ∙ ap (λ (cs : _). map (λ (p : Pair). (p.key, cells_of cs p.row)) (sorted_by by_place pairs)) c.columns-2.ensures in
+    same_shown _ _
+    (c.in_ok-header.ensures ∙ ap (λ cs. map header_column cs) c.columns.ensures)
+    (c.in_ok-rows.ensures ∙ window_from_entries columns pairs c.args.first c.args.end entries made)

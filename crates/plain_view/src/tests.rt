@@ -1,0 +1,165 @@
+ghost use Rattle.std.specs.Prelude.{◌≡◌, IsTrue, map};
+ghost use Rattle.view_types.specs.Distinct.{AreDistinct};
+
+use crate::{show, show_window};
+use cell_core::{Cell, ColumnWords, Listed, Memory, Schema, Text};
+use row_batch::Pair;
+use std::alloc::Global;
+use std::process::Abort;
+use std::test::Fail;
+use view_types::{Shown, ViewKey};
+
+fn integers(alloc: Global, names: &[&str]) -> Result<Schema, Fail> {
+    let mut columns = Vec::new(alloc);
+    for name in names {
+        columns.push(ColumnWords {
+            name: Text::from_str(alloc, name)?,
+            kind: Text::from_str(alloc, "integer")?,
+        })?;
+    }
+    Ok(Schema::make(alloc, Listed::from_vec(columns), None, None)?)
+}
+
+fn pair(key: i64, cells: Vec<Cell>) -> Pair {
+    Pair {
+        key: Cell::Int(key),
+        row: Listed::from_vec(cells),
+    }
+}
+
+/// Whether no key stands twice.
+fn are_distinct(pairs: &[Pair]) -> bool
+    ensures { IsTrue result → AreDistinct (map (λ p. p.key) pairs.now) }
+{
+    for i in 0..pairs.len() {
+        if stands_in(&pairs[i].key, &pairs[i + 1..]) {
+            return false;
+        }
+    }
+    true
+}
+
+fn stands_in(key: &Cell, pairs: &[Pair]) -> bool {
+    pairs.iter().any(|pair| pair.key.order(key).is_eq())
+}
+
+/// What is shown, as a text: the header, and a line for each row.
+fn text_of(alloc: Global, shown: &Shown) -> Result<String, Fail> {
+    let mut text = String::new(alloc);
+    for column in shown.header.as_slice() {
+        text.push_str(column.text.as_str())?;
+        text.push_str(" ")?;
+        text.push_str(column.kind.name())?;
+        text.push_str(";")?;
+    }
+    for row in shown.rows.as_slice() {
+        let line = format!(in alloc; "\n{:?} {}", row.key, row.mark)?;
+        text.push_str(line.as_str())?;
+        for (name, value) in row.cells.entries() {
+            let cell = format!(in alloc; " {}={:?}", name.as_str(), value)?;
+            text.push_str(cell.as_str())?;
+        }
+    }
+    Ok(text)
+}
+
+fn shown_of(
+    alloc: Global,
+    rt: &impl Abort,
+    schema: &Schema,
+    pairs: &[Pair],
+) -> Result<String, Fail> {
+    assert!(rt; are_distinct(pairs));
+    text_of(alloc, &show(alloc, schema, pairs)?)
+}
+
+#[test]
+fn rows_of_an_indexed_table(rt: HostRuntime) -> Result<(), Fail> {
+    let alloc = rt.alloc();
+    let schema = integers(alloc, &["k", "v"])?;
+    let pairs = vec![in alloc;
+        pair(2, vec![in alloc; Cell::Int(2), Cell::Int(5)]?),
+        pair(1, vec![in alloc; Cell::Int(1), Cell::Int(7)]?),
+        pair(3, vec![in alloc; Cell::Int(3), Cell::Null]?),
+    ]?;
+    let text = shown_of(alloc, &rt, &schema, &pairs)?;
+    assert_eq!(rt; text.as_str(), "k integer;v integer;\nRow(Int(1)) false k=Whole(1) v=Whole(7)\nRow(Int(2)) false k=Whole(2) v=Whole(5)\nRow(Int(3)) false k=Whole(3)");
+    Ok(())
+}
+
+#[test]
+fn rows_of_a_limited_table(rt: HostRuntime) -> Result<(), Fail> {
+    let alloc = rt.alloc();
+    let schema = integers(alloc, &["v"])?;
+    let mut pairs = Vec::new(alloc);
+    for (slot, value) in [(2, 2), (0, 3), (1, 4)] {
+        pairs.push(pair(slot, vec![in alloc; Cell::Int(value)]?))?;
+    }
+    let text = shown_of(alloc, &rt, &schema, &pairs)?;
+    assert_eq!(rt; text.as_str(), "v integer;\nRow(Int(0)) false v=Whole(3)\nRow(Int(1)) false v=Whole(4)\nRow(Int(2)) false v=Whole(2)");
+    Ok(())
+}
+
+#[test]
+fn a_thousand_rows_ascend(rt: HostRuntime) -> Result<(), Fail> {
+    let alloc = rt.alloc();
+    let schema = integers(alloc, &["v"])?;
+    let mut pairs = Vec::new(alloc);
+    for i in 0..1000i64 {
+        pairs.push(pair(i * 617 % 1000 - 500, vec![in alloc; Cell::Int(i)]?))?;
+    }
+    assert!(rt; are_distinct(&pairs));
+    let shown = show(alloc, &schema, &pairs)?;
+    assert_eq!(rt; shown.rows.as_slice().len(), 1000);
+    for (place, row) in shown.rows.as_slice().iter().enumerate() {
+        assert!(rt; row.key == ViewKey::Row(Cell::Int(place as i64 - 500)));
+    }
+    Ok(())
+}
+
+fn window_keys(
+    alloc: Global,
+    rt: &impl Abort,
+    schema: &Schema,
+    pairs: &[Pair],
+    (first, end): (u64, u64),
+) -> Result<String, Fail> {
+    assert!(rt; are_distinct(pairs));
+    let (shown, size) = show_window(alloc, schema, pairs, first, end)?;
+    assert_eq!(rt; size, pairs.len() as u64);
+    assert_eq!(rt; shown.header.len(), 1);
+    let mut text = String::new(alloc);
+    for row in shown.rows.as_slice() {
+        text.push_str(format!(in alloc; "{:?} ", row.key)?.as_str())?;
+    }
+    Ok(text)
+}
+
+#[test]
+fn windows(rt: HostRuntime) -> Result<(), Fail> {
+    let alloc = rt.alloc();
+    let schema = integers(alloc, &["v"])?;
+    let mut pairs = Vec::new(alloc);
+    for key in [9, -9, 0] {
+        pairs.push(pair(key, vec![in alloc; Cell::Int(1)]?))?;
+    }
+    for (bounds, want) in [
+        ((0, 3), "Row(Int(-9)) Row(Int(0)) Row(Int(9)) "),
+        ((0, u64::MAX), "Row(Int(-9)) Row(Int(0)) Row(Int(9)) "),
+        ((0, 1), "Row(Int(-9)) "),
+        ((1, 3), "Row(Int(0)) Row(Int(9)) "),
+        ((1, 2), "Row(Int(0)) "),
+        ((2, 9), "Row(Int(9)) "),
+        ((1, 1), ""),
+        ((2, 1), ""),
+        ((3, 9), ""),
+        ((u64::MAX, u64::MAX), ""),
+    ] {
+        let keys = window_keys(alloc, &rt, &schema, &pairs, bounds)?;
+        assert_eq!(rt; keys.as_str(), want);
+    }
+    let none = Vec::new(alloc);
+    let keys = window_keys(alloc, &rt, &schema, &none, (0, 9))?;
+    assert_eq!(rt; keys.as_str(), "");
+    Ok(())
+}
