@@ -14,6 +14,7 @@ use Rattle.row_batch.specs.Batches.{empty_store, put_batch}
 use Rattle.row_batch.specs.declared.batch.Batch.TheVariants as batch
 use Rattle.row_batch.specs.declared.batch.PatchCell.{PatchCell}
 use Rattle.row_batch.specs.declared.batch.PatchCell.TheVariants.{Set}
+use Rattle.json_rows.specs.Reading.{patches_of}
 use Rattle.view_types.specs.declared.key.ViewKey.TheVariants.{Row}
 use Rattle.view_types.specs.declared.shown.HeaderColumn.{HeaderColumn}
 use Rattle.view_types.specs.declared.shown.Shown.{Shown}
@@ -22,7 +23,7 @@ use Rattle.view_types.specs.declared.shown.ShownType.TheVariants.{Integer}
 use Rattle.plain_view.specs.Flat.{flat_view}
 use Rattle.frame_types.specs.Asks.{Ask}
 use Rattle.frame_types.specs.Asks as ask
-use Rattle.frame_types.specs.Refusals.{no_table, empty, bad_frame, history_full, memory}
+use Rattle.frame_types.specs.Refusals.{no_table, empty, bad_frame, history_full, view_lost, memory}
 use Rattle.frame_types.specs.declared.reply.Body.{Body}
 use Rattle.frame_types.specs.declared.reply.Body.TheVariants as body
 use Rattle.frame_types.specs.declared.reply.Cause.TheVariants as cause
@@ -281,6 +282,14 @@ rows_up_to_the_limit = refl
 pub one_row_too_many : answer roomy nearly_full (asks (update (raw_list (many_rows 1024)))) ≡ reply 68 1 refused_unbuilt
 one_row_too_many = refl
 
+-- ---- a column of another type reads no whole number
+
+abbrev dates : SchemaData
+dates = record { columns = record { name = codes "v"; kind = kind.Date } ∷ []; keeping = Free }
+
+pub number_for_a_date : patches_of dates (one_row (raw_map (raw_member (codes "v") (raw_int (pos 5)) no_raw_members))) ≡ None
+number_for_a_date = refl
+
 -- ---- slots and running numbers
 
 abbrev integers : Keeping → SchemaData
@@ -411,5 +420,18 @@ nothing_applied = refl
 pub lost_is_said : answer roomy one_waiting (by 0 (ask.apply 0) (losing ((0, 0) ∷ []))) ≡ reply 7 2 (body.AppliedLosing ((0, 0) ∷ []) 0 2)
 lost_is_said = refl
 
-pub lost_twice : may_lose (asks (update (raw_list no_raw_items)) ∷ by 0 (ask.apply 0) (losing ((0, 0) ∷ [])) ∷ one_waiting) (ask.apply 0) ((0, 0) ∷ []) ≡ false
+abbrev with_lost : List Entry
+with_lost = by 0 (ask.apply 0) (losing ((0, 0) ∷ [])) ∷ one_waiting
+
+-- a lost view refuses with the version at which it was lost, and is held all the same
+pub rows_of_a_lost_view : answer roomy with_lost (asks (ask.rows 0 0 1)) ≡ reply 8 2 (body.Refused (view_lost 2))
+rows_of_a_lost_view = refl
+
+pub backwards_in_a_lost_view : answer roomy with_lost (asks (ask.rows 0 2 1)) ≡ reply 8 2 refused_unbuilt
+backwards_in_a_lost_view = refl
+
+pub open_beside_a_lost_view : answer roomy with_lost (asks open_all) ≡ reply 8 2 refused_unbuilt
+open_beside_a_lost_view = refl
+
+pub lost_twice : may_lose (asks (update (raw_list no_raw_items)) ∷ with_lost) (ask.apply 0) ((0, 0) ∷ []) ≡ false
 lost_twice = refl
