@@ -1,3 +1,25 @@
 //! What a history of requests is answered: the definitions that every claim of the engine rests on.
+//!
+//! `specs/` has, from below: histories with their answers (`Answered`), the batch that a request asks
+//! for (`Reading`), ports and their batches (`Ports`), the table's rows (`Rows`), the views that are
+//! held (`HeldViews`), the answer where memory is plenty (`Answers`), choices and legal histories
+//! (`Histories`), and runs (`Runs`). No code stands here but laws: functions that do nothing, whose
+//! contracts say what holds of every history. `proofs/Worked.antt` computes answers of short ones.
 #![tactic(auto)]
 
+ghost use Rattle.hub_spec.specs.Laws.{AppliedThenWaiting, AppliedInOrder, RowsAreApplied, RefusalsChangeNothing};
+
+/// No batch is lost or made on the way: on each port, the applied batches and then the waiting ones
+/// are the accepted ones, and they were applied in the order of their numbers, each once. The rows
+/// come from the applied batches alone. It does nothing, and its contract is the law.
+pub fn batches_are_kept()
+    ensures all { AppliedThenWaiting }
+    ensures in_order { AppliedInOrder }
+    ensures rows { RowsAreApplied }
+{}
+
+/// A refusal changes nothing but the session's count of requests. It does nothing, and its contract
+/// is the law.
+pub fn refusals_change_nothing()
+    ensures { RefusalsChangeNothing }
+{}

@@ -1,0 +1,437 @@
+-- Worked histories: what the definitions say of them, computed.
+use Rattle.std.proofs.Common.{◌≡◌, ℕ, suc, zero, ℤ, pos, negsuc, Bool, true, false, List, [], ◌∷◌, Some, None, refl}
+use Rattle.std.specs.Prelude.{codes}
+use Rattle.value_core.specs.Values.{value_order}
+use Rattle.value_core.specs.declared.value.Value.TheVariants.{Whole}
+use Rattle.cell_core.specs.RawData.{RawData, raw_null, raw_int, raw_list, raw_map, RawItems, no_raw_items, raw_item, no_raw_members, raw_member}
+use Rattle.cell_core.specs.Schemas.{SchemaData}
+use Rattle.cell_core.specs.declared.cell.Cell.TheVariants.{Int}
+use Rattle.cell_core.specs.declared.cell.CellType.TheVariants as kind
+use Rattle.cell_core.specs.declared.schema.ColumnWords.{ColumnWords}
+use Rattle.cell_core.specs.declared.schema.Keeping.{Keeping}
+use Rattle.cell_core.specs.declared.schema.Keeping.TheVariants.{Limited, Free, Indexed}
+use Rattle.row_batch.specs.Batches.{empty_store, put_batch}
+use Rattle.row_batch.specs.declared.batch.Batch.TheVariants as batch
+use Rattle.row_batch.specs.declared.batch.PatchCell.{PatchCell}
+use Rattle.row_batch.specs.declared.batch.PatchCell.TheVariants.{Set}
+use Rattle.json_rows.specs.Reading.{patches_of}
+use Rattle.view_types.specs.declared.key.ViewKey.TheVariants.{Row}
+use Rattle.view_types.specs.declared.shown.HeaderColumn.{HeaderColumn}
+use Rattle.view_types.specs.declared.shown.Shown.{Shown}
+use Rattle.view_types.specs.declared.shown.ShownRow.{ShownRow}
+use Rattle.view_types.specs.declared.shown.ShownType.TheVariants.{Integer}
+use Rattle.plain_view.specs.Flat.{flat_view}
+use Rattle.frame_types.specs.Asks.{Ask}
+use Rattle.frame_types.specs.Asks as ask
+use Rattle.frame_types.specs.Refusals.{no_table, empty, bad_frame, history_full, view_lost, memory}
+use Rattle.frame_types.specs.declared.reply.Body.{Body}
+use Rattle.frame_types.specs.declared.reply.Body.TheVariants as body
+use Rattle.frame_types.specs.declared.reply.Cause.TheVariants as cause
+use Rattle.frame_types.specs.declared.reply.Reply.{Reply}
+use Rattle.frame_types.specs.declared.request.FrameCause.TheVariants as frame
+use Rattle.hub_spec.specs.Histories.{Entry, Choice, plenty, want, losing, answer, answered, is_allowed, followed, told}
+
+-- ---- how requests, rows and replies are written here
+
+-- more entries than any history below has
+abbrev roomy : ℕ
+roomy = 9007199254740991
+
+abbrev by : ℕ → Ask → Choice → Entry
+by session request choice = record { session = session; request = request; choice = choice }
+
+-- asked by session 0, with plenty of memory
+abbrev asks : Ask → Entry
+asks request = by 0 request plenty
+
+abbrev reply : ℕ → ℕ → Body → Reply
+reply n version answer = record { n = n; version = version; body = answer }
+
+abbrev refused_unbuilt : Body
+refused_unbuilt = body.Refused (bad_frame cause.Unbuilt)
+
+abbrev integer_column : List ℕ → ColumnWords
+integer_column name = record { name = name; kind = codes "integer" }
+
+abbrev make_table : Ask
+make_table = ask.table (integer_column (codes "k") ∷ integer_column (codes "v") ∷ []) (Some (codes "k")) None
+
+abbrev k_and_v : ℤ → ℤ → RawData
+k_and_v k v = raw_map (raw_member (codes "k") (raw_int k) (raw_member (codes "v") (raw_int v) no_raw_members))
+
+abbrev only_k : ℤ → RawData
+only_k k = raw_map (raw_member (codes "k") (raw_int k) no_raw_members)
+
+abbrev one_row : RawData → RawData
+one_row r = raw_list (raw_item r no_raw_items)
+
+abbrev two_rows : RawData → RawData → RawData
+two_rows a b = raw_list (raw_item a (raw_item b no_raw_items))
+
+abbrev update : RawData → Ask
+update rows = ask.update 0 rows
+
+abbrev open_all : Ask
+open_all = ask.open_view (raw_map no_raw_members) 10
+
+abbrev header : List HeaderColumn
+header = record { text = codes "k"; kind = Integer } ∷ record { text = codes "v"; kind = Integer } ∷ []
+
+abbrev shown_row : ℤ → ℤ → ShownRow
+shown_row k v = record { key = Row (Int k); mark = false; cells = (codes "k", Whole k) ∷ (codes "v", Whole v) ∷ [] }
+
+abbrev shows : List ShownRow → Shown
+shows rows = record { header = header; rows = rows }
+
+-- ---- a table, a port, a batch of two rows, applied, and a view of them by key
+
+abbrev with_table : List Entry
+with_table = asks make_table ∷ []
+
+abbrev with_port : List Entry
+with_port = asks ask.port ∷ with_table
+
+abbrev with_batch : List Entry
+with_batch = asks (update (two_rows (k_and_v (pos 2) (pos 5)) (k_and_v (pos 1) (pos 7)))) ∷ with_port
+
+abbrev with_rows : List Entry
+with_rows = asks (ask.apply 0) ∷ with_batch
+
+abbrev with_view : List Entry
+with_view = asks open_all ∷ with_rows
+
+pub first_table : answer roomy [] (asks make_table) ≡ reply 1 0 body.Table
+first_table = refl
+
+pub first_port : answer roomy with_table (asks ask.port) ≡ reply 2 0 (body.Port 0)
+first_port = refl
+
+pub first_queued : answer roomy with_port (asks (update (two_rows (k_and_v (pos 2) (pos 5)) (k_and_v (pos 1) (pos 7))))) ≡ reply 3 0 (body.Queued 0 1)
+first_queued = refl
+
+pub first_applied : answer roomy with_batch (asks (ask.apply 0)) ≡ reply 4 1 (body.Applied 0 1)
+first_applied = refl
+
+pub first_opened : answer roomy with_rows (asks open_all) ≡ reply 5 1 (body.Opened 0 (shows (shown_row (pos 1) (pos 7) ∷ shown_row (pos 2) (pos 5) ∷ [])) 0)
+unfolding value_order
+first_opened = refl
+
+-- ---- the refusals
+
+pub port_without_table : answer roomy [] (asks ask.port) ≡ reply 1 0 (body.Refused no_table)
+port_without_table = refl
+
+pub unread_without_table : answer roomy [] (asks (ask.unread frame.Unbuilt)) ≡ reply 1 0 refused_unbuilt
+unread_without_table = refl
+
+pub unread_is_no_json : answer roomy with_rows (asks (ask.unread frame.Json)) ≡ reply 5 1 (body.Refused (bad_frame cause.Json))
+unread_is_no_json = refl
+
+pub apply_with_nothing_waiting : answer roomy with_port (asks (ask.apply 0)) ≡ reply 3 0 (body.Refused empty)
+apply_with_nothing_waiting = refl
+
+pub apply_after_all_are_applied : answer roomy with_rows (asks (ask.apply 0)) ≡ reply 5 1 (body.Refused empty)
+apply_after_all_are_applied = refl
+
+pub second_table : answer roomy with_table (asks make_table) ≡ reply 2 0 refused_unbuilt
+second_table = refl
+
+pub table_without_columns : answer roomy [] (asks (ask.table [] (Some (codes "k")) None)) ≡ reply 1 0 refused_unbuilt
+table_without_columns = refl
+
+pub second_port : answer roomy with_port (asks ask.port) ≡ reply 3 0 refused_unbuilt
+second_port = refl
+
+-- a port that was refused is not the first one
+pub port_after_a_refused_one : answer roomy (asks make_table ∷ asks ask.port ∷ []) (asks ask.port) ≡ reply 3 0 (body.Port 0)
+port_after_a_refused_one = refl
+
+pub other_port : answer roomy with_batch (asks (ask.apply 1)) ≡ reply 4 0 refused_unbuilt
+other_port = refl
+
+pub row_without_index : answer roomy with_port (asks (update (one_row (raw_map (raw_member (codes "v") (raw_int (pos 5)) no_raw_members))))) ≡ reply 3 0 refused_unbuilt
+row_without_index = refl
+
+pub row_of_another_column : answer roomy with_port (asks (update (one_row (raw_map (raw_member (codes "k") (raw_int (pos 5)) (raw_member (codes "w") (raw_int (pos 5)) no_raw_members)))))) ≡ reply 3 0 refused_unbuilt
+row_of_another_column = refl
+
+pub row_with_null : answer roomy with_port (asks (update (one_row (raw_map (raw_member (codes "k") raw_null no_raw_members))))) ≡ reply 3 0 refused_unbuilt
+row_with_null = refl
+
+pub greatest_cell : answer roomy with_port (asks (update (one_row (k_and_v (pos 9007199254740991) (negsuc 9007199254740990))))) ≡ reply 3 0 (body.Queued 0 1)
+greatest_cell = refl
+
+pub cell_too_great : answer roomy with_port (asks (update (one_row (only_k (pos 9007199254740992))))) ≡ reply 3 0 refused_unbuilt
+cell_too_great = refl
+
+pub cell_too_small : answer roomy with_port (asks (update (one_row (only_k (negsuc 9007199254740991))))) ≡ reply 3 0 refused_unbuilt
+cell_too_small = refl
+
+abbrev many_rows : ℕ → RawItems
+many_rows zero = no_raw_items
+many_rows (suc n) = raw_item (only_k (pos 1)) (many_rows n)
+
+pub most_rows_of_a_batch : answer roomy with_port (asks (update (raw_list (many_rows 1024)))) ≡ reply 3 0 (body.Queued 0 1)
+most_rows_of_a_batch = refl
+
+pub too_many_rows_of_a_batch : answer roomy with_port (asks (update (raw_list (many_rows 1025)))) ≡ reply 3 0 refused_unbuilt
+too_many_rows_of_a_batch = refl
+
+pub no_rows_are_a_batch : answer roomy with_port (asks (update (raw_list no_raw_items))) ≡ reply 3 0 (body.Queued 0 1)
+no_rows_are_a_batch = refl
+
+pub rows_across : answer roomy with_port (asks (update (raw_map no_raw_members))) ≡ reply 3 0 refused_unbuilt
+rows_across = refl
+
+pub second_view : answer roomy with_view (asks open_all) ≡ reply 6 1 refused_unbuilt
+second_view = refl
+
+pub other_plan : answer roomy with_rows (asks (ask.open_view (raw_map (raw_member (codes "sort") (raw_list no_raw_items) no_raw_members)) 10)) ≡ reply 5 1 refused_unbuilt
+other_plan = refl
+
+pub view_not_given : answer roomy with_view (asks (ask.rows 1 0 2)) ≡ reply 6 1 refused_unbuilt
+view_not_given = refl
+
+-- a view of another session is none of this session, whose requests are counted apart
+pub view_of_another_session : answer roomy with_view (by 1 (ask.rows 0 0 2) plenty) ≡ reply 1 1 refused_unbuilt
+view_of_another_session = refl
+
+-- ---- windows
+
+pub whole_window : answer roomy with_view (asks (ask.rows 0 0 2)) ≡ reply 6 1 (body.Rows 0 0 (shows (shown_row (pos 1) (pos 7) ∷ shown_row (pos 2) (pos 5) ∷ [])) 2 0)
+unfolding value_order
+whole_window = refl
+
+pub last_row_alone : answer roomy with_view (asks (ask.rows 0 1 2)) ≡ reply 6 1 (body.Rows 0 1 (shows (shown_row (pos 2) (pos 5) ∷ [])) 2 0)
+unfolding value_order
+last_row_alone = refl
+
+pub window_over_the_end : answer roomy with_view (asks (ask.rows 0 1 9)) ≡ reply 6 1 (body.Rows 0 1 (shows (shown_row (pos 2) (pos 5) ∷ [])) 2 0)
+unfolding value_order
+window_over_the_end = refl
+
+pub window_past_the_end : answer roomy with_view (asks (ask.rows 0 7 9)) ≡ reply 6 1 (body.Rows 0 7 (shows []) 2 0)
+unfolding value_order
+window_past_the_end = refl
+
+pub empty_window : answer roomy with_view (asks (ask.rows 0 1 1)) ≡ reply 6 1 (body.Rows 0 1 (shows []) 2 0)
+unfolding value_order
+empty_window = refl
+
+pub window_backwards : answer roomy with_view (asks (ask.rows 0 2 1)) ≡ reply 6 1 refused_unbuilt
+window_backwards = refl
+
+-- ---- batches
+
+-- a view shows the rows as they are when it is asked: a key that stands in two rows of a batch is patched twice
+pub key_twice_in_a_batch : answer roomy (asks (ask.apply 0) ∷ asks (update (two_rows (k_and_v (pos 3) (pos 8)) (k_and_v (pos 3) (pos 9)))) ∷ with_view) (asks (ask.rows 0 0 9))
+    ≡ reply 8 2 (body.Rows 0 0 (shows (shown_row (pos 1) (pos 7) ∷ shown_row (pos 2) (pos 5) ∷ shown_row (pos 3) (pos 9) ∷ [])) 3 0)
+unfolding value_order
+key_twice_in_a_batch = refl
+
+-- a column that is left out keeps its cell, also the one that the same batch set
+pub left_out_column : answer roomy (asks (ask.apply 0) ∷ asks (update (two_rows (k_and_v (pos 2) (pos 6)) (only_k (pos 2)))) ∷ with_view) (asks (ask.rows 0 0 9))
+    ≡ reply 8 2 (body.Rows 0 0 (shows (shown_row (pos 1) (pos 7) ∷ shown_row (pos 2) (pos 6) ∷ [])) 2 0)
+unfolding value_order
+left_out_column = refl
+
+-- in a new row it is null, which is not shown
+pub left_out_in_a_new_row : answer roomy (asks (ask.apply 0) ∷ asks (update (one_row (only_k (negsuc 0)))) ∷ with_view) (asks (ask.rows 0 0 1))
+    ≡ reply 8 2 (body.Rows 0 0 (shows (record { key = Row (Int (negsuc 0)); mark = false; cells = (codes "k", Whole (negsuc 0)) ∷ [] } ∷ [])) 3 0)
+unfolding value_order
+left_out_in_a_new_row = refl
+
+-- a batch that waits is not shown, and the oldest is applied first
+abbrev two_waiting : List Entry
+two_waiting = asks (update (one_row (k_and_v (pos 1) (pos 20)))) ∷ asks (update (one_row (k_and_v (pos 1) (pos 10)))) ∷ with_view
+
+pub waiting_is_not_shown : answer roomy two_waiting (asks (ask.rows 0 0 1)) ≡ reply 8 1 (body.Rows 0 0 (shows (shown_row (pos 1) (pos 7) ∷ [])) 2 0)
+unfolding value_order
+waiting_is_not_shown = refl
+
+pub next_seq : answer roomy two_waiting (asks (update (raw_list no_raw_items))) ≡ reply 8 1 (body.Queued 0 4)
+next_seq = refl
+
+pub oldest_is_applied : answer roomy two_waiting (asks (ask.apply 0)) ≡ reply 8 2 (body.Applied 0 2)
+oldest_is_applied = refl
+
+pub oldest_was_applied : answer roomy (asks (ask.apply 0) ∷ two_waiting) (asks (ask.rows 0 0 1)) ≡ reply 9 2 (body.Rows 0 0 (shows (shown_row (pos 1) (pos 10) ∷ [])) 2 0)
+unfolding value_order
+oldest_was_applied = refl
+
+-- ---- room
+
+-- so many batches, of so many rows each, behind a history
+abbrev queued : ℕ → ℕ → List Entry → List Entry
+queued zero rows h = h
+queued (suc n) rows h = asks (update (raw_list (many_rows rows))) ∷ queued n rows h
+
+pub sixty_fourth_waits : answer roomy (queued 63 0 with_port) (asks (update (raw_list no_raw_items))) ≡ reply 66 0 (body.Queued 0 64)
+sixty_fourth_waits = refl
+
+pub sixty_fifth_does_not : answer roomy (queued 64 0 with_port) (asks (update (raw_list no_raw_items))) ≡ reply 67 0 refused_unbuilt
+sixty_fifth_does_not = refl
+
+-- one live row and 64,512 that wait
+abbrev nearly_full : List Entry
+nearly_full = queued 63 1024 (asks (ask.apply 0) ∷ queued 1 1 with_port)
+
+pub rows_up_to_the_limit : answer roomy nearly_full (asks (update (raw_list (many_rows 1023)))) ≡ reply 68 1 (body.Queued 0 65)
+rows_up_to_the_limit = refl
+
+pub one_row_too_many : answer roomy nearly_full (asks (update (raw_list (many_rows 1024)))) ≡ reply 68 1 refused_unbuilt
+one_row_too_many = refl
+
+-- ---- a column of another type reads no whole number
+
+abbrev dates : SchemaData
+dates = record { columns = record { name = codes "v"; kind = kind.Date } ∷ []; keeping = Free }
+
+pub number_for_a_date : patches_of dates (one_row (raw_map (raw_member (codes "v") (raw_int (pos 5)) no_raw_members))) ≡ None
+number_for_a_date = refl
+
+-- ---- slots and running numbers
+
+abbrev integers : Keeping → SchemaData
+integers keeping = record { columns = record { name = codes "v"; kind = kind.Integer } ∷ []; keeping = keeping }
+
+abbrev sets : ℤ → List PatchCell
+sets v = Set (Int v) ∷ []
+
+abbrev five : List (List PatchCell)
+five = sets (pos 0) ∷ sets (pos 1) ∷ sets (pos 2) ∷ sets (pos 3) ∷ sets (pos 4) ∷ []
+
+abbrev shown_v : ℤ → ℤ → ShownRow
+shown_v key v = record { key = Row (Int key); mark = false; cells = (codes "v", Whole v) ∷ [] }
+
+-- in three slots the fourth row takes the place of the first
+pub three_slots : (flat_view (integers (Limited 3)) (put_batch (integers (Limited 3)) empty_store (batch.Update five)).pairs).rows
+    ≡ shown_v (pos 0) (pos 3) ∷ shown_v (pos 1) (pos 4) ∷ shown_v (pos 2) (pos 2) ∷ []
+unfolding value_order
+three_slots = refl
+
+-- after a clear rows are numbered from 0 again
+pub numbered_anew : (put_batch (integers Free) (put_batch (integers Free) (put_batch (integers Free) empty_store (batch.Update five)) batch.Clear) (batch.Update (sets (pos 8) ∷ [])))
+    ≡ record { pairs = record { key = Int (pos 0); row = Int (pos 8) ∷ [] } ∷ []; number = 1 }
+numbered_anew = refl
+
+pub removed_keys : (put_batch (integers (Indexed 0)) (put_batch (integers (Indexed 0)) empty_store (batch.Update five)) (batch.Remove (Int (pos 9) ∷ Int (pos 0) ∷ Int (pos 2) ∷ Int (pos 3) ∷ []))).pairs
+    ≡ record { key = Int (pos 1); row = Int (pos 1) ∷ [] } ∷ record { key = Int (pos 4); row = Int (pos 4) ∷ [] } ∷ []
+removed_keys = refl
+
+-- ---- want of memory
+
+pub want_is_said : answer roomy with_batch (by 0 (ask.apply 0) want) ≡ reply 4 0 (body.Refused memory)
+want_is_said = refl
+
+-- and the batch still waits
+pub apply_after_want : answer roomy (by 0 (ask.apply 0) want ∷ with_batch) (asks (ask.apply 0)) ≡ reply 5 1 (body.Applied 0 1)
+apply_after_want = refl
+
+pub port_after_want : answer roomy (by 0 ask.port want ∷ with_table) (asks ask.port) ≡ reply 3 0 (body.Port 0)
+port_after_want = refl
+
+pub view_after_want : answer roomy (by 0 open_all want ∷ with_rows) (asks open_all) ≡ reply 6 1 (body.Opened 0 (shows (shown_row (pos 1) (pos 7) ∷ shown_row (pos 2) (pos 5) ∷ [])) 0)
+unfolding value_order
+view_after_want = refl
+
+abbrev may_want : List Entry → Ask → Bool
+may_want h request = is_allowed roomy (answered roomy h) 0 request want
+
+pub want_of_a_table : may_want [] make_table ≡ true
+want_of_a_table = refl
+
+pub want_of_a_second_table : may_want with_table make_table ≡ true
+want_of_a_second_table = refl
+
+pub want_of_a_port : may_want with_table ask.port ≡ true
+want_of_a_port = refl
+
+pub want_of_a_second_port : may_want with_port ask.port ≡ true
+want_of_a_second_port = refl
+
+pub want_of_a_batch : may_want with_port (update (one_row (only_k (pos 1)))) ≡ true
+want_of_a_batch = refl
+
+pub want_of_unread_rows : may_want with_port (update raw_null) ≡ true
+want_of_unread_rows = refl
+
+pub want_of_an_apply : may_want with_batch (ask.apply 0) ≡ true
+want_of_an_apply = refl
+
+pub want_of_an_empty_port : may_want with_port (ask.apply 0) ≡ true
+want_of_an_empty_port = refl
+
+pub want_of_a_view : may_want with_rows open_all ≡ true
+want_of_a_view = refl
+
+pub want_of_a_window : may_want with_view (ask.rows 0 0 1) ≡ true
+want_of_a_window = refl
+
+pub no_want_without_table : may_want [] ask.port ≡ false
+no_want_without_table = refl
+
+pub no_want_of_an_unread_line : may_want with_table (ask.unread frame.Json) ≡ false
+no_want_of_an_unread_line = refl
+
+pub no_want_of_an_unbuilt_line : may_want with_table (ask.unread frame.Unbuilt) ≡ false
+no_want_of_an_unbuilt_line = refl
+
+pub no_want_of_a_full_history : is_allowed 2 (answered 2 with_port) 0 make_table want ≡ false
+no_want_of_a_full_history = refl
+
+-- ---- a full history
+
+pub full_at_two : answer 2 with_port (asks (ask.unread frame.Unbuilt)) ≡ reply 3 0 (body.Refused (history_full 2))
+full_at_two = refl
+
+pub full_of_another_session : answer 2 with_port (by 7 ask.port plenty) ≡ reply 1 0 (body.Refused (history_full 2))
+full_of_another_session = refl
+
+pub full_stays : followed 2 with_port (told 0 ask.port (answer 2 with_port (asks ask.port))) ≡ with_port
+full_stays = refl
+
+pub not_yet_full : answer 3 with_port (asks (ask.apply 0)) ≡ reply 3 0 (body.Refused empty)
+not_yet_full = refl
+
+-- ---- lost views
+
+abbrev may_lose : List Entry → Ask → List (ℕ × ℕ) → Bool
+may_lose h request lost = is_allowed roomy (answered roomy h) 0 request (losing lost)
+
+abbrev one_waiting : List Entry
+one_waiting = asks (update (one_row (only_k (pos 1)))) ∷ with_view
+
+pub a_held_view : may_lose one_waiting (ask.apply 0) ((0, 0) ∷ []) ≡ true
+a_held_view = refl
+
+pub no_view_at_all : may_lose one_waiting (ask.apply 0) [] ≡ false
+no_view_at_all = refl
+
+pub a_view_twice : may_lose one_waiting (ask.apply 0) ((0, 0) ∷ (0, 0) ∷ []) ≡ false
+a_view_twice = refl
+
+pub a_view_not_held : may_lose one_waiting (ask.apply 0) ((1, 0) ∷ []) ≡ false
+a_view_not_held = refl
+
+pub nothing_applied : may_lose with_view (ask.apply 0) ((0, 0) ∷ []) ≡ false
+nothing_applied = refl
+
+pub lost_is_said : answer roomy one_waiting (by 0 (ask.apply 0) (losing ((0, 0) ∷ []))) ≡ reply 7 2 (body.AppliedLosing ((0, 0) ∷ []) 0 2)
+lost_is_said = refl
+
+abbrev with_lost : List Entry
+with_lost = by 0 (ask.apply 0) (losing ((0, 0) ∷ [])) ∷ one_waiting
+
+-- a lost view refuses with the version at which it was lost, and is held all the same
+pub rows_of_a_lost_view : answer roomy with_lost (asks (ask.rows 0 0 1)) ≡ reply 8 2 (body.Refused (view_lost 2))
+rows_of_a_lost_view = refl
+
+pub backwards_in_a_lost_view : answer roomy with_lost (asks (ask.rows 0 2 1)) ≡ reply 8 2 refused_unbuilt
+backwards_in_a_lost_view = refl
+
+pub open_beside_a_lost_view : answer roomy with_lost (asks open_all) ≡ reply 8 2 refused_unbuilt
+open_beside_a_lost_view = refl
+
+pub lost_twice : may_lose (asks (update (raw_list no_raw_items)) ∷ with_lost) (ask.apply 0) ((0, 0) ∷ []) ≡ false
+lost_twice = refl

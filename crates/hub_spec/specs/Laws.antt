@@ -1,0 +1,55 @@
+-- What holds of every history, legal or not.
+use Rattle.std.specs.Prelude.{◌≡◌, ℕ, suc, zero, ◌+◌, ◌==◌, List, [], ◌∷◌, ◌++◌, filter, fold, map}
+use Rattle.frame_types.specs.Asks.{Ask}
+use Rattle.frame_types.specs.declared.reply.Body.TheVariants.{Refused}
+use Rattle.frame_types.specs.declared.reply.Refusal.{Refusal}
+use Rattle.row_batch.specs.Batches.{empty_store, put_batch}
+use Rattle.row_batch.specs.declared.batch.Batch.{Batch}
+use Rattle.hub_spec.specs.Answered.{Answered}
+use Rattle.hub_spec.specs.Histories.{Entry, answered}
+use Rattle.hub_spec.specs.Ports.{Applied, accepted, taken, waiting, applied}
+use Rattle.hub_spec.specs.HeldViews as held
+use Rattle.hub_spec.specs.Ports as history
+use Rattle.hub_spec.specs.Rows as table
+use Rattle.hub_spec.specs.Rows.{schema_or_none, rows}
+
+abbrev pub batches_on : ℕ → List Applied → List Batch
+batches_on port done = map (λ a. a.batch) (filter (λ a. a.port == port) done)
+
+abbrev pub seqs_on : ℕ → List Applied → List ℕ
+seqs_on port done = map (λ a. a.seq) (filter (λ a. a.port == port) done)
+
+-- on each port, the batches that were applied and then those that wait are those that were accepted
+abbrev pub AppliedThenWaiting : Type 0
+AppliedThenWaiting = (limit : ℕ) (h : List Entry) (port : ℕ) →
+    batches_on port (applied (answered limit h)) ++ waiting (answered limit h) port ≡ accepted (answered limit h) port
+
+-- 1 up to a number
+abbrev pub counted : ℕ → List ℕ
+counted zero = []
+counted (suc n) = counted n ++ (n + 1) ∷ []
+
+-- on each port, the batches were applied in the order of their numbers, each once
+abbrev pub AppliedInOrder : Type 0
+AppliedInOrder = (limit : ℕ) (h : List Entry) (port : ℕ) →
+    seqs_on port (applied (answered limit h)) ≡ counted (taken (answered limit h) port)
+
+-- the rows have no other source than the applied batches
+abbrev pub RowsAreApplied : Type 0
+RowsAreApplied = (past : List Answered) →
+    rows past ≡ (fold (put_batch (schema_or_none past)) empty_store (map (λ a. a.batch) (applied past))).pairs
+
+-- a step that was refused leaves all as it was, but for the session's count of steps
+pub record IsUnchanged (past after : List Answered) : Type 0 where
+  pub schema : history.schema after ≡ history.schema past
+  pub ports : history.ports after ≡ history.ports past
+  pub accepted : (port : ℕ) → history.accepted after port ≡ history.accepted past port
+  pub waiting : (port : ℕ) → history.waiting after port ≡ history.waiting past port
+  pub version : history.version after ≡ history.version past
+  pub rows : table.rows after ≡ table.rows past
+  pub views : held.views after ≡ held.views past
+  pub opened : (session : ℕ) → held.opened after session ≡ held.opened past session
+
+abbrev pub RefusalsChangeNothing : Type 0
+RefusalsChangeNothing = (past : List Answered) (session n version : ℕ) (request : Ask) (why : Refusal) →
+    IsUnchanged past (record { session = session; request = request; reply = record { n = n; version = version; body = Refused why } } ∷ past)
