@@ -1,0 +1,3 @@
+pub mod RawOf
+pub mod Requests
+pub mod Replies
