@@ -12,6 +12,7 @@ cause_text cause.Json = codes "json"
 cause_text cause.Unbuilt = codes "unbuilt"
 cause_text cause.HistoryFull = codes "history full"
 cause_text cause.Empty = codes "empty"
+cause_text cause.ViewLost = codes "view lost"
 cause_text cause.NoTable = codes "no table"
 cause_text cause.Memory = codes "memory"
 
@@ -30,6 +31,10 @@ history_full limit = record { code = 11; cause = cause.HistoryFull; at = One lim
 -- no batch waits on the port
 abbrev pub empty : Refusal
 empty = record { code = 12; cause = cause.Empty; at = Zero }
+
+-- an update of the view found no memory, at that version
+abbrev pub view_lost : ℕ → Refusal
+view_lost version = record { code = 16; cause = cause.ViewLost; at = One version }
 
 -- no table was made
 abbrev pub no_table : Refusal

@@ -8,6 +8,7 @@ pub enum Cause {
     Unbuilt,
     HistoryFull,
     Empty,
+    ViewLost,
     NoTable,
     Memory,
 }

@@ -1,13 +1,13 @@
 -- What a request is answered where memory is plenty: the first refusal whose condition holds, and
 -- else what is granted.
-use Rattle.std.specs.Prelude.{ℕ, ◌+◌, ◌==◌, nat_lt, nat_le, List, [], ◌∷◌, length, Bool, true, false, not, ◌||◌, Option, Some, None, is_some, is_none, is_ok, if◌then◌else◌}
+use Rattle.std.specs.Prelude.{ℕ, ◌+◌, ◌==◌, nat_lt, nat_le, List, [], ◌∷◌, length, Bool, true, false, not, ◌||◌, Option, Some, None, is_some, is_none, unwrap_or, is_ok, if◌then◌else◌}
 use Rattle.cell_core.specs.RawData.{RawData, raw_null, raw_bool, raw_int, other_number, raw_words, raw_list, raw_map, RawMembers, no_raw_members, raw_member}
 use Rattle.cell_core.specs.Schemas.{schema_of}
 use Rattle.row_batch.specs.Batches.{rows_in}
 use Rattle.row_batch.specs.declared.batch.Batch.{Batch}
 use Rattle.frame_types.specs.Asks.{Ask}
 use Rattle.frame_types.specs.Asks as ask
-use Rattle.frame_types.specs.Refusals.{frame_cause, bad_frame, history_full, empty, no_table}
+use Rattle.frame_types.specs.Refusals.{frame_cause, bad_frame, history_full, empty, view_lost, no_table}
 use Rattle.frame_types.specs.declared.reply.Body.{Body}
 use Rattle.frame_types.specs.declared.reply.Body.TheVariants as body
 use Rattle.frame_types.specs.declared.reply.Cause.TheVariants.{Unbuilt}
@@ -31,6 +31,11 @@ without_table past = (is_none (schema past), no_table)
 -- the form isn't built yet
 abbrev pub unbuilt : Bool → Bool × Refusal
 unbuilt b = (b, bad_frame Unbuilt)
+
+-- the view was lost
+abbrev pub lost_view : Option HeldView → Bool × Refusal
+lost_view None = (false, view_lost 0)
+lost_view (Some v) = (is_some v.lost, view_lost (unwrap_or v.lost 0))
 
 -- ---- conditions
 
@@ -77,6 +82,7 @@ refusals past session (ask.rows view first end) =
     without_table past
     ∷ unbuilt (is_none (held past session view))
     ∷ unbuilt (nat_lt end first)
+    ∷ lost_view (held past session view)
     ∷ []
 refusals past session (ask.unread why) = (true, bad_frame (frame_cause why)) ∷ []
 

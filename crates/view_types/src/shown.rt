@@ -1,11 +1,10 @@
-ghost use Rattle.std.specs.Prelude.{◌≡◌, ◌∷◌, ◌++◌, [], length, map, IfOk, OnOk, OnErr};
+ghost use Rattle.std.specs.Prelude.{◌≡◌, ◌∷◌, ◌++◌, [], length, OnOk, OnErr};
 ghost use Rattle.std.specs.BTreeMap.{insert_entry};
 ghost use Rattle.std.specs.Cmp.Lexicographic.{slice_cmp};
 ghost use Rattle.std.specs.List.Sorted.{IsStrictlySortedBy};
 ghost use Rattle.std.specs.Map.{keys_of};
 ghost use Rattle.std.specs.Ordering.{nat_cmp};
 ghost use Rattle.view_types.specs.Cells.{put_cell};
-ghost use Rattle.view_types.specs.Distinct.{AreDistinct};
 
 use crate::key::ViewKey;
 use cell_core::{CellType, Listed, Memory, Text, Value};
@@ -91,27 +90,31 @@ pub struct ShownRow {
     pub cells: ShownCells,
 }
 
-/// Rows in the order in which they are shown. No key stands twice.
+/// Rows in the order in which they are shown. No key stands twice, and a row that is no group has no
+/// mark.
 #[derive(Debug, Drop)]
 pub struct ShownRows {
     rows: Listed<ShownRow>,
 }
 
 impl Model for ShownRows {
-    ghost use Rattle.std.specs.Prelude.{List, map};
+    ghost use Rattle.std.specs.Prelude.{List};
     ghost use Rattle.view_types.specs.declared.shown.ShownRow.{ShownRow};
-    ghost use Rattle.view_types.specs.Distinct.{AreDistinct};
+    ghost use Rattle.view_types.specs.Rows.{AreShownRows};
 
     ghost Value = { List ShownRow };
 
     ghost view = { λ s. s.rows };
 
-    ghost invariant = { λ s. AreDistinct (map (λ r. r.key) s.rows) };
+    ghost invariant = { λ s. AreShownRows s.rows };
 }
 
 impl ShownRows {
+    ghost use Rattle.std.specs.Prelude.{◌≡◌};
+    ghost use Rattle.view_types.specs.Rows.{AreShownRows};
+
     pub fn from_listed(rows: Listed<ShownRow>) -> ShownRows
-        requires { AreDistinct (map (λ r. r.key) rows) }
+        requires { AreShownRows rows }
         ensures { result ≡ rows }
     {
         ShownRows { rows }
@@ -119,7 +122,7 @@ impl ShownRows {
 
     pub fn as_slice(&self) -> &[ShownRow]
         ensures rows { result.now ≡ self.now }
-        ensures distinct { AreDistinct (map (λ r. r.key) self.now) }
+        ensures shown { AreShownRows self.now }
     {
         self.rows.as_slice()
     }
