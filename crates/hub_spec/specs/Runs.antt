@@ -16,3 +16,8 @@ Ran limit h [] [] after = after ≡ h
 Ran limit h (q ∷ asked) (r ∷ replies) after = IsAnswer limit h q.0 q.1 r × Ran limit (followed limit h (told q.0 q.1 r)) asked replies after
 Ran limit h [] (r ∷ replies) after = ⊥
 Ran limit h (q ∷ asked) [] after = ⊥
+
+-- the reply is the answer after the history, and what follows has the property
+pub record Steps (limit : ℕ) (h : List Entry) (session : ℕ) (request : Ask) (reply : Reply) (Stands : List Entry → Type 0) : Type 0 where
+  pub answer : IsAnswer limit h session request reply
+  pub stands : Stands (followed limit h (told session request reply))

@@ -3,11 +3,16 @@
 //! `specs/` has, from below: histories with their answers (`Answered`), the batch that a request asks
 //! for (`Reading`), ports and their batches (`Ports`), the table's rows (`Rows`), the views that are
 //! held (`HeldViews`), the answer where memory is plenty (`Answers`), choices and legal histories
-//! (`Histories`), and runs (`Runs`). No code stands here but laws: functions that do nothing, whose
+//! (`Histories`), and runs (`Runs`). The only functions are laws: functions that do nothing, whose
 //! contracts say what holds of every history. `proofs/Worked.antt` computes answers of short ones.
+//! `Caller` is what a loop over requests asks of whatever answers them.
 #![tactic(auto)]
 
 ghost use Rattle.hub_spec.specs.Laws.{AppliedThenWaiting, AppliedInOrder, RowsAreApplied, RefusalsChangeNothing};
+
+mod caller;
+
+pub use caller::Caller;
 
 /// No batch is lost or made on the way: on each port, the applied batches and then the waiting ones
 /// are the accepted ones, and they were applied in the order of their numbers, each once. The rows

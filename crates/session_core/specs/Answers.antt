@@ -1,0 +1,69 @@
+-- Which bytes answer which lines.
+use Rattle.std.specs.Prelude.{◌≡◌, ℕ, ◌-◌, ◌^◌, List, [], ◌∷◌, ◌++◌, map, take, true, Option, Some, None, ◌⊎◌}
+use Rattle.std.specs.List.{flat_map}
+use Rattle.io_ends.specs.declared.line.Line.{Line}
+use Rattle.io_ends.specs.declared.line.Line.TheVariants.{Words, Long, End}
+use Rattle.frame_types.specs.Asks.{Ask}
+use Rattle.frame_types.specs.declared.request.FrameCause.TheVariants.{Unbuilt}
+use Rattle.frame_types.specs.declared.reply.Reply.{Reply}
+use Rattle.frame_json.specs.Requests.{request_of, unread_by}
+use Rattle.frame_json.specs.Replies.{text}
+use Rattle.std.specs.Io.KnownBytes.{Appends}
+use Rattle.hub_spec.specs.Histories.{Entry, followed, told}
+use Rattle.hub_spec.specs.Runs.{IsAnswer, Ran}
+
+-- the most steps of a script's history, which a script is too short to reach
+abbrev pub script_limit : ℕ
+script_limit = 2 ^ 53 - 1
+
+-- the request of a line, and the session that asks it
+abbrev pub asked_of : List ℕ → ℕ × Ask
+asked_of line = request_of line true
+
+-- of a line that was read; a long line was not kept, and is no request in any case
+abbrev pub asked_in : Line → Option (ℕ × Ask)
+asked_in (Words line) = Some (asked_of line)
+asked_in Long = Some (unread_by Unbuilt)
+asked_in End = None
+
+-- a reply line: the reply's text and byte 10
+abbrev pub reply_line : Reply → List ℕ
+reply_line reply = text reply ++ 10 ∷ []
+
+abbrev pub reply_lines : List Reply → List ℕ
+reply_lines replies = flat_map reply_line replies
+
+-- the bytes are one reply line for each line, each the answer computed from scratch after those
+-- before it, under a choice that it names and that is allowed there
+pub record Answers (lines : List (List ℕ)) (out : List ℕ) : Type 0 where
+  pub replies : List Reply
+  pub after : List Entry
+  pub written : out ≡ reply_lines replies
+  pub ran : Ran script_limit [] (map asked_of lines) replies after
+
+-- nothing, or a front of a reply line that answers the request after this history
+abbrev pub PartOf : ℕ → List Entry → ℕ × Ask → List ℕ → Type 0
+PartOf limit h asked part = (part ≡ []) ⊎ ((reply : Reply) × IsAnswer limit h asked.0 asked.1 reply × (n : ℕ) × (part ≡ take n (reply_line reply)))
+
+abbrev pub PartOfNext : List Entry → List (List ℕ) → List ℕ → Type 0
+PartOfNext h [] part = part ≡ []
+PartOfNext h (line ∷ others) part = PartOf script_limit h (asked_of line) part
+
+-- the bytes are the reply lines to the first of the lines, and then a front of the next one
+pub record PartlyAnswers (lines : List (List ℕ)) (out : List ℕ) : Type 0 where
+  pub done : List (List ℕ)
+  pub others : List (List ℕ)
+  pub replies : List Reply
+  pub after : List Entry
+  pub part : List ℕ
+  pub lines_are : lines ≡ done ++ others
+  pub written : out ≡ reply_lines replies ++ part
+  pub ran : Ran script_limit [] (map asked_of done) replies after
+  pub next : PartOfNext after others part
+
+-- one request was answered: the sink took its reply line, and what follows has the property
+pub record Answered (limit : ℕ) (h : List Entry) (asked : ℕ × Ask) (Stands : List Entry → Type 0) (before after : Option (List ℕ)) : Type 0 where
+  pub reply : Reply
+  pub answer : IsAnswer limit h asked.0 asked.1 reply
+  pub stands : Stands (followed limit h (told asked.0 asked.1 reply))
+  pub written : Appends before after (reply_line reply)

@@ -1,0 +1,26 @@
+-- The faults of a script's loop, from those of its ends.
+use Rattle.std.specs.Prelude.{ℕ, Result, Ok, Err}
+use Rattle.io_ends.specs.declared.line.LineFault.{LineFault}
+use Rattle.io_ends.specs.declared.line.LineFault.TheVariants as line
+use Rattle.io_ends.specs.declared.sink.SinkFault.{SinkFault}
+use Rattle.io_ends.specs.declared.sink.SinkFault.TheVariants as sink
+use Rattle.session_core.specs.declared.script.Fault.{Fault}
+use Rattle.session_core.specs.declared.script.Fault.TheVariants as fault
+use Rattle.session_core.specs.declared.script.ScriptEnd.{ScriptEnd}
+use Rattle.session_core.specs.declared.script.ScriptEnd.TheVariants as end
+
+abbrev pub of_line : LineFault → Fault
+of_line line.Read = fault.Read
+of_line line.TooMany = fault.TooLong
+of_line line.Memory = fault.Memory
+
+abbrev pub of_sink : SinkFault → Fault
+of_sink sink.Failed = fault.Write
+of_sink sink.Memory = fault.Memory
+
+abbrev pub end_of : Result ℕ Fault → ScriptEnd
+end_of (Ok count) = end.Done count
+end_of (Err fault.Memory) = end.Memory
+end_of (Err fault.TooLong) = end.TooLong
+end_of (Err fault.Read) = end.ReadFault
+end_of (Err fault.Write) = end.WriteFault
