@@ -1,7 +1,7 @@
 ghost use Rattle.std.specs.Prelude.{◌≡◌, ◌<◌, ◌≤◌, [], ◌∷◌, length, position, IfOk, IfErr};
 ghost use Rattle.std.specs.Str.{bytes_eq};
 ghost use Rattle.plain_data.specs.Faults.{first_fault};
-ghost use Rattle.cell_core.specs.Schemas.{type_named, type_name, column_faults, keeping_faults, schema_faults, keeping_of, typed_columns, outcome_of, schema_of, is_named, RefusesSchema};
+ghost use Rattle.cell_core.specs.Schemas.{type_named, type_name, column_faults, keeping_faults, schema_faults, keeping_of, typed_columns, outcome_of, schema_of, is_named, RefusesSchema, IsKeeping};
 
 use crate::cell::CellType;
 use plain_data::{Listed, Memory, Text};
@@ -165,7 +165,8 @@ impl Schema {
     }
 
     pub fn keeping(&self) -> Keeping
-        ensures { result ≡ self.now.keeping }
+        ensures keeping { result ≡ self.now.keeping }
+        ensures fits { IsKeeping (length self.now.columns) result }
     {
         self.keeping
     }

@@ -6,4 +6,4 @@
 
 mod batch;
 
-pub use batch::{Batch, Pair, Patch, PatchCell, Patches};
+pub use batch::{Batch, MAX_BATCH, Pair, Patch, PatchCell, Patches};

@@ -1,6 +1,6 @@
 -- What rows keep that are shown together.
 use Rattle.std.specs.Prelude.{◌≡◌, Bool, false, List, All, map}
-use Rattle.view_types.specs.Distinct.{AreDistinct}
+use Rattle.plain_data.specs.Distinct.{AreDistinct}
 use Rattle.view_types.specs.declared.key.ViewKey.{ViewKey}
 use Rattle.view_types.specs.declared.key.ViewKey.TheVariants.{Row, Group}
 use Rattle.view_types.specs.declared.shown.ShownRow.{ShownRow}

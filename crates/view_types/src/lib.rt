@@ -8,4 +8,4 @@ mod key;
 mod shown;
 
 pub use key::ViewKey;
-pub use shown::{HeaderColumn, Header, Shown, ShownCells, ShownRow, ShownRows, ShownType};
+pub use shown::{Header, HeaderColumn, Shown, ShownCells, ShownRow, ShownRows, ShownType};
