@@ -10,6 +10,8 @@ mod copies;
 mod listed;
 mod memory;
 mod steps;
+#[cfg(test)]
+mod tests;
 mod text;
 
 pub use copies::Copies;

@@ -16,7 +16,7 @@ use Rattle.cell_core.specs.declared.cell.Cell.{Cell}
 use Rattle.cell_core.specs.declared.cell.Cell.TheVariants as cell
 use Rattle.cell_core.proofs.CellOrder.{derived_order, exact}
 use Rattle.row_batch.specs.declared.batch.Pair.{Pair}
-use Rattle.view_types.specs.Distinct.{AreDistinct}
+use Rattle.plain_data.specs.Distinct.{AreDistinct}
 use Rattle.view_types.specs.declared.shown.Shown.{Shown}
 use Rattle.plain_view.specs.Places.{shown_order, place_order, place_of_row}
 use Rattle.plain_view.specs.Flat.{by_place, flat_view, header_column, shown_row}

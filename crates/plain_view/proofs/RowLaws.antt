@@ -14,7 +14,7 @@ use Rattle.cell_core.specs.Schemas.{SchemaData}
 use Rattle.cell_core.specs.declared.cell.Cell.{Cell}
 use Rattle.cell_core.specs.declared.schema.Column.{Column}
 use Rattle.row_batch.specs.declared.batch.Pair.{Pair}
-use Rattle.view_types.specs.Distinct.{AreDistinct}
+use Rattle.plain_data.specs.Distinct.{AreDistinct}
 use Rattle.view_types.specs.Rows.{AreShownRows, IsMarked}
 use Rattle.view_types.specs.declared.key.ViewKey.TheVariants.{Row}
 use Rattle.view_types.specs.declared.shown.Shown.{Shown}

@@ -6,7 +6,7 @@ use Rattle.std.specs.Ordering.{is_lt, match_ordering}
 use Rattle.std.proofs.lemmas.List.Elements.{All-nil, All-cons, All-head, All-tail, All-weaker}
 use Rattle.std.proofs.lemmas.List.Sums.{fold_more}
 use Rattle.plain_data.specs.Sorting.{insert_by, sorted_by}
-use Rattle.view_types.specs.Distinct.{AreDistinct}
+use Rattle.plain_data.specs.Distinct.{AreDistinct}
 use Rattle.plain_view.proofs.DistinctLaws.{apart_before}
 
 -- what holds of each item holds of each sorted item

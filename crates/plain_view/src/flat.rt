@@ -1,6 +1,6 @@
 ghost use Rattle.std.specs.Prelude.{◌≡◌, ◌-◌, IfOk, length, map, take, drop};
 ghost use Rattle.plain_data.specs.Sorting.{sorted_by};
-ghost use Rattle.view_types.specs.Distinct.{AreDistinct};
+ghost use Rattle.plain_data.specs.Distinct.{AreDistinct};
 ghost use Rattle.plain_view.specs.Flat.{by_place, cells_of, flat_view, window};
 ghost use Rattle.plain_view.specs.Rows.{flat_row};
 

@@ -1,7 +1,7 @@
 ghost use Rattle.std.specs.Prelude.{◌≡◌, IsPermutation, List, map};
 ghost use Rattle.cell_core.specs.Schemas.{SchemaData};
 ghost use Rattle.row_batch.specs.declared.batch.Pair.{Pair};
-ghost use Rattle.view_types.specs.Distinct.{AreDistinct};
+ghost use Rattle.plain_data.specs.Distinct.{AreDistinct};
 ghost use Rattle.plain_view.specs.Flat.{flat_view};
 
 /// A flat view is the same whatever the order of the rows that it is computed from. It does nothing,

@@ -1,5 +1,5 @@
 ghost use Rattle.std.specs.Prelude.{◌≡◌, IsTrue, map};
-ghost use Rattle.view_types.specs.Distinct.{AreDistinct};
+ghost use Rattle.plain_data.specs.Distinct.{AreDistinct};
 
 use crate::{show, show_window};
 use cell_core::{Cell, ColumnWords, Listed, Memory, Schema, Text};
