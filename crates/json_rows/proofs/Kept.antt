@@ -1,5 +1,5 @@
 -- What every reading of rows keeps: counts, widths and keys.
-use Rattle.std.proofs.Common.{◌≡◌, ℕ, suc, ◌+◌, ◌<◌, ◌≤◌, ltb, leb, Bool, true, false, cond, List, [], ◌∷◌, length, Option, Some, None, option_map, option_and_then, All, Result, Ok, Err, IfOk, IfSome, refl, sym, ap, ◌∙◌, add-one, arith}
+use Rattle.std.proofs.Common.{◌≡◌, ℕ, suc, ◌<◌, ◌≤◌, leb, Bool, true, false, cond, List, [], ◌∷◌, length, Option, Some, None, option_map, option_and_then, All, Result, Ok, Err, IfOk, IfSome, refl, sym, ap, ◌∙◌, add-one, arith}
 use Rattle.std.proofs.lemmas.Bool.Decides.{nat_tests}
 use Rattle.std.proofs.lemmas.List.Elements.{All-nil, All-cons}
 use Rattle.cell_core.specs.RawData.{RawData, raw_null, raw_bool, raw_int, other_number, raw_words, raw_list, raw_map, RawItems, no_raw_items, raw_item, RawMembers}
@@ -41,7 +41,7 @@ joined_width (Some x) (Some more) n h = ap suc h
 patch_cells_of-width : (columns : List Column) (ms : RawMembers) → IfSome (patch_cells_of columns ms) (λ patch. length patch ≡ length columns)
 patch_cells_of-width [] ms = refl
 patch_cells_of-width (c ∷ columns) ms =
-    joined_width (patch_cell_of (get_raw c.name ms)) (patch_cells_of columns ms) (length columns) (patch_cells_of-width columns ms)
+    joined_width (patch_cell_of c.kind (get_raw c.name ms)) (patch_cells_of columns ms) (length columns) (patch_cells_of-width columns ms)
 
 keyed : (schema : SchemaData) (patch : List PatchCell) (b : Bool) → sets_key schema.keeping patch ≡ b → length patch ≡ length schema.columns
     → IfSome (cond b (Some patch) None) (IsPatch schema)

@@ -5,7 +5,7 @@
 -- columns of whole numbers.
 use Rattle.std.specs.Prelude.{ℕ, ◌+◌, ◌-◌, ◌^◌, ℤ, pos, negsuc, nat_lt, nat_le, List, [], ◌∷◌, Bool, true, false, ◌&&◌, Option, Some, None, is_some, option_map, option_and_then, position, slice_index_or, if◌then◌else◌}
 use Rattle.std.specs.Str.{bytes_eq}
-use Rattle.cell_core.specs.RawData.{RawData, raw_null, raw_bool, raw_int, other_number, raw_words, raw_list, raw_map, RawItems, no_raw_items, raw_item, RawMembers, no_raw_members, raw_member, get_raw}
+use Rattle.cell_core.specs.RawData.{RawData, raw_int, raw_list, raw_map, RawItems, no_raw_items, raw_item, RawMembers, no_raw_members, raw_member, get_raw}
 use Rattle.cell_core.specs.Schemas.{SchemaData}
 use Rattle.cell_core.specs.declared.cell.Cell.{Cell}
 use Rattle.cell_core.specs.declared.cell.Cell.TheVariants.{Int}

@@ -1,10 +1,12 @@
 ghost use Rattle.std.specs.Prelude.{◌≡◌, ◌≤◌, All, IfOk, IfSome, length, map, option_map};
 ghost use Rattle.cell_core.specs.RawData.{raw_list};
 ghost use Rattle.cell_core.specs.RawViews.{raw_view, items_of, list_view, map_view, members_of};
-ghost use Rattle.json_rows.specs.Reading.{in_range, patch_cell_of, patch_cells_of, names_columns, sets_key, patch_of, patches_in, patches_of};
+ghost use Rattle.json_rows.specs.Reading.{in_range, cell_of, patch_cell_of, patch_cells_of, names_columns, sets_key, patch_of, patches_in, patches_of};
 ghost use Rattle.json_rows.specs.Patches.{IsPatch};
 
-use cell_core::{Cell, Column, Keeping, Listed, Memory, Raw, RawList, RawMap, Schema, Text};
+use cell_core::{
+    Cell, CellType, Column, Keeping, Listed, Memory, Raw, RawList, RawMap, Schema, Text,
+};
 use row_batch::{MAX_BATCH, Patch, PatchCell, Patches};
 use std::alloc::Global;
 use std::collections::BTreeMap;
@@ -13,8 +15,9 @@ use std::collections::BTreeMap;
 const MAX_INTEGER: i64 = 9_007_199_254_740_991;
 
 /// The patches that the rows of an update stand for, in their order, or `None` where `rows` is not
-/// a list of at most 1,024 objects whose members are named by columns, have whole numbers from
-/// -(2^53-1) to 2^53-1 as values and, on a table with an index, include the index column.
+/// a list of at most 1,024 objects whose members are named by columns of whole numbers, have whole
+/// numbers from -(2^53-1) to 2^53-1 as values and, on a table with an index, include the index
+/// column.
 pub fn batch_rows(alloc: Global, schema: &Schema, rows: &Raw) -> Result<Option<Patches>, Memory>
     ensures found { IfOk result (λ found. found ≡ patches_of schema.now (raw_view rows.now)) }
     ensures patches { IfOk result (λ found. IfSome found (All (IsPatch schema.now))) }
@@ -100,7 +103,7 @@ fn patch_cells(alloc: Global, columns: &[Column], members: &RawMap) -> Result<Op
 {
     let mut cells = Vec::new(alloc);
     for column in columns {
-        match patch_cell(members.get(&column.name)) {
+        match patch_cell(column.kind, members.get(&column.name)) {
             Some(cell) => cells.push(cell)?,
             None => return Ok(None),
         }
@@ -108,15 +111,21 @@ fn patch_cells(alloc: Global, columns: &[Column], members: &RawMap) -> Result<Op
     Ok(Some(Listed::from_vec(cells)))
 }
 
-fn patch_cell(value: Option<&Raw>) -> Option<PatchCell>
-    ensures { result ≡ patch_cell_of (option_map (λ v. raw_view v.now) value.entry) }
+fn patch_cell(kind: CellType, value: Option<&Raw>) -> Option<PatchCell>
+    ensures { result ≡ patch_cell_of kind (option_map (λ v. raw_view v.now) value.entry) }
 {
     match value {
         None => Some(PatchCell::Keep),
-        Some(Raw::Int(number)) if is_in_range(*number) => {
-            Some(PatchCell::Set(Cell::Int(*number)))
-        }
-        Some(_) => None,
+        Some(value) => Some(PatchCell::Set(cell_of(kind, value)?)),
+    }
+}
+
+fn cell_of(kind: CellType, value: &Raw) -> Option<Cell>
+    ensures { result ≡ cell_of kind (raw_view value.now) }
+{
+    match (kind, value) {
+        (CellType::Integer, Raw::Int(number)) if is_in_range(*number) => Some(Cell::Int(*number)),
+        _ => None,
     }
 }
 

@@ -1,4 +1,7 @@
-use cell_core::{Cell, Cells, Listed, Row};
+ghost use Rattle.std.specs.Prelude.{◌≡◌};
+
+use cell_core::{Cell, Cells, Copies, Listed, Memory, Row};
+use std::alloc::Global;
 
 /// The most rows or keys of one batch.
 pub const MAX_BATCH: usize = 1024;
@@ -33,4 +36,27 @@ pub enum Batch {
 pub struct Pair {
     pub key: Cell,
     pub row: Row,
+}
+
+impl Batch {
+    ghost use Rattle.row_batch.specs.Batches.{rows_in};
+
+    /// How many rows it has that wait to be put.
+    pub fn rows(&self) -> usize
+        ensures { result ≡ rows_in self.now }
+    {
+        match self {
+            Batch::Update(patches) | Batch::Replace(patches) => patches.len(),
+            Batch::Remove(_) | Batch::Clear => 0,
+        }
+    }
+}
+
+impl Copies for Pair {
+    fn copies(&self, alloc: Global) -> Result<Pair, Memory> {
+        Ok(Pair {
+            key: self.key.copies(alloc)?,
+            row: self.row.copies(alloc)?,
+        })
+    }
 }

@@ -1,7 +1,7 @@
-use Rattle.std.proofs.Common.{◌≡◌, ◌<◌, ◌≤◌, length, map, ap, sym, ◌∙◌, arith}
+use Rattle.std.proofs.Common.{◌<◌, ◌≤◌, length, map, ap, sym, ◌∙◌, arith}
 use Rattle.std.proofs.lemmas.List.{length-map}
 use Rattle.cell_core.specs.RawData.{raw_list}
-use Rattle.cell_core.specs.RawViews.{raw_view, items_of, list_view}
+use Rattle.cell_core.specs.RawViews.{raw_view, list_view}
 use Rattle.json_rows.proofs.Kept.{patches_of-many, found-in, found-IsPatch, found-few}
 use Rattle.json_rows.specs.Reading.{patches_of}
 use Rattle.json_rows.proofs.reading.list_rows.Goals as goal
