@@ -52,7 +52,11 @@ pub(crate) fn bound_at(members: &Members) -> Option<u64>
         return Some(MAX_BOUND);
     };
     let bound = natural_in(value)?;
-    if bound <= MAX_BOUND { Some(bound) } else { None }
+    if bound <= MAX_BOUND {
+        Some(bound)
+    } else {
+        None
+    }
 }
 
 pub(crate) fn words_at<'m>(members: &'m Members, name: &str) -> Option<&'m str>

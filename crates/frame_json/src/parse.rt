@@ -12,6 +12,10 @@ pub(crate) fn parsed(alloc: Global, bytes: &[u8]) -> Result<Option<Value>, Memor
 {
     match Value::from_slice(alloc, bytes) {
         Ok(value) => Ok(Some(value)),
-        Err(refused) => if refused.is_memory() { Err(Memory) } else { Ok(None) },
+        Err(refused) => if refused.is_memory() {
+            Err(Memory)
+        } else {
+            Ok(None)
+        },
     }
 }

@@ -5,7 +5,9 @@ use cell_core::{Cell, Listed, Memory, Numbers, Raw, Text, Value};
 use frame_types::{Body, Cause, FrameCause, Refusal, Reply, Request};
 use std::alloc::Global;
 use std::test::Fail;
-use view_types::{Header, HeaderColumn, Shown, ShownCells, ShownRow, ShownRows, ShownType, ViewKey};
+use view_types::{
+    Header, HeaderColumn, Shown, ShownCells, ShownRow, ShownRows, ShownType, ViewKey,
+};
 
 fn request(alloc: Global, line: &[u8]) -> Result<Request, Memory> {
     Ok(read_request(alloc, line, true)?.request)
@@ -27,12 +29,21 @@ fn form(request: &Request) -> &'static str {
 #[test]
 fn lines_are_read(rt: HostRuntime) -> Result<(), Fail> {
     let lines: [(&[u8], &str); 20] = [
-        (b"{\"op\":\"table\",\"columns\":[[\"k\",\"integer\"],[\"v\",\"integer\"]],\"index\":\"k\"}", "table"),
+        (
+            b"{\"op\":\"table\",\"columns\":[[\"k\",\"integer\"],[\"v\",\"integer\"]],\"index\":\"k\"}",
+            "table",
+        ),
         (b"{\"op\":\"port\"}", "port"),
-        (b"{\"op\":\"update\",\"port\":0,\"rows\":[{\"k\":2,\"v\":5},{\"k\":1,\"v\":7}]}", "update"),
+        (
+            b"{\"op\":\"update\",\"port\":0,\"rows\":[{\"k\":2,\"v\":5},{\"k\":1,\"v\":7}]}",
+            "update",
+        ),
         (b"{\"op\":\"apply\",\"port\":0}", "apply"),
         (b"{\"op\":\"open\",\"plan\":{},\"bound\":10}", "open"),
-        (b" {\"to\":9,\"from\":0,\"view\":3,\"op\":\"rows\"} ", "rows"),
+        (
+            b" {\"to\":9,\"from\":0,\"view\":3,\"op\":\"rows\"} ",
+            "rows",
+        ),
         (b"{\"op\":\"info\",\"op\":\"port\"}", "port"),
         (b"{\"op\":\"info\"}", "unbuilt"),
         (b"7", "unbuilt"),
@@ -43,8 +54,14 @@ fn lines_are_read(rt: HostRuntime) -> Result<(), Fail> {
         (b"{\"op\":\"apply\",\"port\":-1}", "unbuilt"),
         (b"{\"op\":\"apply\",\"port\":1.0}", "unbuilt"),
         (b"{\"op\":\"open\",\"plan\":{},\"bound\":65537}", "unbuilt"),
-        (b"{\"op\":\"table\",\"columns\":[[\"k\",\"integer\"]]}", "unbuilt"),
-        (b"{\"op\":\"table\",\"columns\":[[\"k\",\"string\"]],\"index\":\"k\"}", "unbuilt"),
+        (
+            b"{\"op\":\"table\",\"columns\":[[\"k\",\"integer\"]]}",
+            "unbuilt",
+        ),
+        (
+            b"{\"op\":\"table\",\"columns\":[[\"k\",\"string\"]],\"index\":\"k\"}",
+            "unbuilt",
+        ),
         (b"{\"op\":\"port\"", "json"),
         (b"\"\xff\"", "json"),
     ];
@@ -95,11 +112,20 @@ fn replies_are_written(rt: HostRuntime) -> Result<(), Fail> {
     let table = written(alloc, 1, 0, Body::Table)?;
     assert_eq!(rt; table.as_str(), "{\"is\":\"table\",\"n\":1,\"version\":0}");
     let port = written(alloc, 2, 0, Body::Port { port: 0 })?;
-    assert_eq!(rt; port.as_str(), "{\"is\":\"port\",\"n\":2,\"port\":0,\"version\":0}");
+    assert_eq!(rt;
+        port.as_str(),
+        "{\"is\":\"port\",\"n\":2,\"port\":0,\"version\":0}"
+    );
     let queued = written(alloc, 3, 0, Body::Queued { port: 0, seq: 1 })?;
-    assert_eq!(rt; queued.as_str(), "{\"is\":\"queued\",\"n\":3,\"port\":0,\"seq\":1,\"version\":0}");
+    assert_eq!(rt;
+        queued.as_str(),
+        "{\"is\":\"queued\",\"n\":3,\"port\":0,\"seq\":1,\"version\":0}"
+    );
     let applied = written(alloc, 4, 1, Body::Applied { port: 0, seq: 1 })?;
-    assert_eq!(rt; applied.as_str(), "{\"is\":\"applied\",\"n\":4,\"port\":0,\"seq\":1,\"version\":1}");
+    assert_eq!(rt;
+        applied.as_str(),
+        "{\"is\":\"applied\",\"n\":4,\"port\":0,\"seq\":1,\"version\":1}"
+    );
     Ok(())
 }
 
@@ -107,8 +133,18 @@ fn replies_are_written(rt: HostRuntime) -> Result<(), Fail> {
 fn lost_views_are_written(rt: HostRuntime) -> Result<(), Fail> {
     let alloc = rt.alloc();
     let lost = Listed::from_vec([(0, 2), (3, 1)].to_vec(alloc)?);
-    let losing = written(alloc, 9, 4, Body::AppliedLosing { lost, port: 1, seq: 2 })?;
-    let want = "{\"is\":\"applied_losing\",\"lost\":[[0,2],[3,1]],\"n\":9,\"port\":1,\"seq\":2,\"version\":4}";
+    let losing = written(
+        alloc,
+        9,
+        4,
+        Body::AppliedLosing {
+            lost,
+            port: 1,
+            seq: 2,
+        },
+    )?;
+    let want =
+        "{\"is\":\"applied_losing\",\"lost\":[[0,2],[3,1]],\"n\":9,\"port\":1,\"seq\":2,\"version\":4}";
     assert_eq!(rt; losing.as_str(), want);
     Ok(())
 }
@@ -121,13 +157,25 @@ fn refusal(alloc: Global, n: u64, code: u8, cause: Cause, at: Numbers) -> Result
 fn refusals_are_written(rt: HostRuntime) -> Result<(), Fail> {
     let alloc = rt.alloc();
     let no_table = refusal(alloc, 1, 21, Cause::NoTable, Numbers::Zero)?;
-    assert_eq!(rt; no_table.as_str(), "{\"at\":[],\"cause\":\"no table\",\"code\":21,\"is\":\"refused\",\"n\":1,\"version\":0}");
+    assert_eq!(rt;
+        no_table.as_str(),
+        "{\"at\":[],\"cause\":\"no table\",\"code\":21,\"is\":\"refused\",\"n\":1,\"version\":0}"
+    );
     let unbuilt = refusal(alloc, 1, 1, Cause::Unbuilt, Numbers::Zero)?;
-    assert_eq!(rt; unbuilt.as_str(), "{\"at\":[],\"cause\":\"unbuilt\",\"code\":1,\"is\":\"refused\",\"n\":1,\"version\":0}");
+    assert_eq!(rt;
+        unbuilt.as_str(),
+        "{\"at\":[],\"cause\":\"unbuilt\",\"code\":1,\"is\":\"refused\",\"n\":1,\"version\":0}"
+    );
     let empty = refusal(alloc, 3, 12, Cause::Empty, Numbers::Zero)?;
-    assert_eq!(rt; empty.as_str(), "{\"at\":[],\"cause\":\"empty\",\"code\":12,\"is\":\"refused\",\"n\":3,\"version\":0}");
+    assert_eq!(rt;
+        empty.as_str(),
+        "{\"at\":[],\"cause\":\"empty\",\"code\":12,\"is\":\"refused\",\"n\":3,\"version\":0}"
+    );
     let full = refusal(alloc, 6, 11, Cause::HistoryFull, Numbers::One(5))?;
-    assert_eq!(rt; full.as_str(), "{\"at\":[5],\"cause\":\"history full\",\"code\":11,\"is\":\"refused\",\"n\":6,\"version\":0}");
+    assert_eq!(rt;
+        full.as_str(),
+        "{\"at\":[5],\"cause\":\"history full\",\"code\":11,\"is\":\"refused\",\"n\":6,\"version\":0}"
+    );
     Ok(())
 }
 
@@ -172,8 +220,18 @@ fn an_opened_view_is_written(rt: HostRuntime) -> Result<(), Fail> {
         header: header(alloc)?,
         rows: two_rows(alloc)?,
     };
-    let opened = written(alloc, 5, 1, Body::Opened { edit: 0, shown, view: 0 })?;
-    let want = "{\"edit\":0,\"header\":[[\"k\",\"integer\"],[\"v\",\"integer\"]],\"is\":\"opened\",\"n\":5,\"rows\":[[[\"r\",1],{\"k\":1,\"v\":7}],[[\"r\",2],{\"k\":2,\"v\":5}]],\"version\":1,\"view\":0}";
+    let opened = written(
+        alloc,
+        5,
+        1,
+        Body::Opened {
+            edit: 0,
+            shown,
+            view: 0,
+        },
+    )?;
+    let want =
+        "{\"edit\":0,\"header\":[[\"k\",\"integer\"],[\"v\",\"integer\"]],\"is\":\"opened\",\"n\":5,\"rows\":[[[\"r\",1],{\"k\":1,\"v\":7}],[[\"r\",2],{\"k\":2,\"v\":5}]],\"version\":1,\"view\":0}";
     assert_eq!(rt; opened.as_str(), want);
     Ok(())
 }
@@ -207,12 +265,34 @@ fn odd_cells(alloc: Global) -> Result<ShownCells, Memory> {
 fn kinds_and_escapes_are_written(rt: HostRuntime) -> Result<(), Fail> {
     let alloc = rt.alloc();
     let mut header = Listed::new(alloc);
-    header.push(HeaderColumn { text: odd_text(alloc)?, kind: ShownType::Moment })?;
+    header.push(HeaderColumn {
+        text: odd_text(alloc)?,
+        kind: ShownType::Moment,
+    })?;
     let mut rows = Listed::new(alloc);
-    rows.push(ShownRow { key: ViewKey::Group(path(alloc)?), mark: true, cells: odd_cells(alloc)? })?;
-    let shown = Shown { header, rows: ShownRows::from_listed(rows) };
-    let reply = written(alloc, 7, 2, Body::Rows { edit: 1, from: 3, shown, size: 9, view: 4 })?;
-    let want = "{\"edit\":1,\"from\":3,\"header\":[[\"\\\"\\\\\\n\\u0001é\",\"datetime\"]],\"is\":\"rows\",\"n\":7,\"rows\":[[[\"g\",null,true,-4,[\"t\",1500],\"x\"],true,{\"b\":false,\"m\":9007199254740991,\"n\":[\"i\",\"-9007199254740992\"],\"t\":[\"t\",-1],\"w\":\"\\\"\\\\\\n\\u0001é\"}]],\"size\":9,\"version\":2,\"view\":4}";
+    rows.push(ShownRow {
+        key: ViewKey::Group(path(alloc)?),
+        mark: true,
+        cells: odd_cells(alloc)?,
+    })?;
+    let shown = Shown {
+        header,
+        rows: ShownRows::from_listed(rows),
+    };
+    let reply = written(
+        alloc,
+        7,
+        2,
+        Body::Rows {
+            edit: 1,
+            from: 3,
+            shown,
+            size: 9,
+            view: 4,
+        },
+    )?;
+    let want =
+        "{\"edit\":1,\"from\":3,\"header\":[[\"\\\"\\\\\\n\\u0001é\",\"datetime\"]],\"is\":\"rows\",\"n\":7,\"rows\":[[[\"g\",null,true,-4,[\"t\",1500],\"x\"],true,{\"b\":false,\"m\":9007199254740991,\"n\":[\"i\",\"-9007199254740992\"],\"t\":[\"t\",-1],\"w\":\"\\\"\\\\\\n\\u0001é\"}]],\"size\":9,\"version\":2,\"view\":4}";
     assert_eq!(rt; reply.as_str(), want);
     Ok(())
 }
