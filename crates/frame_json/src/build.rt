@@ -17,6 +17,7 @@ fn cause_name(cause: Cause) -> &'static str
         Cause::Unbuilt => "unbuilt",
         Cause::HistoryFull => "history full",
         Cause::Empty => "empty",
+        Cause::ViewLost => "view lost",
         Cause::NoTable => "no table",
         Cause::Memory => "memory",
     }

@@ -21,14 +21,26 @@ pub enum Request {
     /// Makes a port.
     Port,
     /// Queues an update on a port. The rows are judged against the schema.
-    Update { port: u64, rows: Raw },
+    Update {
+        port: u64,
+        rows: Raw,
+    },
     /// Applies the oldest batch that waits on a port.
-    Apply { port: u64 },
+    Apply {
+        port: u64,
+    },
     /// Opens a view. The plan is judged against the schema; `bound` is the most changed rows that
     /// a delta of the view may have.
-    Open { plan: Raw, bound: u64 },
+    Open {
+        plan: Raw,
+        bound: u64,
+    },
     /// Asks for the rows at positions `from` up to and without `to`.
-    Rows { view: u64, from: u64, to: u64 },
+    Rows {
+        view: u64,
+        from: u64,
+        to: u64,
+    },
     /// What could not be read as a request.
     Unread(FrameCause),
 }
