@@ -18,9 +18,12 @@ abbrev pub of_sink : SinkFault → Fault
 of_sink sink.Failed = fault.Write
 of_sink sink.Memory = fault.Memory
 
+abbrev pub fault_end : Fault → ScriptEnd
+fault_end fault.Memory = end.Memory
+fault_end fault.TooLong = end.TooLong
+fault_end fault.Read = end.ReadFault
+fault_end fault.Write = end.WriteFault
+
 abbrev pub end_of : Result ℕ Fault → ScriptEnd
 end_of (Ok count) = end.Done count
-end_of (Err fault.Memory) = end.Memory
-end_of (Err fault.TooLong) = end.TooLong
-end_of (Err fault.Read) = end.ReadFault
-end_of (Err fault.Write) = end.WriteFault
+end_of (Err why) = fault_end why

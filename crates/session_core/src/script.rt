@@ -1,15 +1,16 @@
-ghost use Rattle.std.specs.Prelude.{◌≡◌, ◌≤◌, ◌++◌, ◌∷◌, [], List, string_bytes, OnOk, OnErr, IsErrOf, IfOk, IfSome, ℕ, option_map};
+ghost use Rattle.std.specs.Prelude.{◌≡◌, ◌+◌, ◌^◌, ◌<◌, ◌≤◌, ℕ, true, false, [], List, Option, length, string_bytes, option_map, OnOk, OnErr, IsErrOf, IfOk, IfErr, IfSome};
 ghost use Rattle.std.specs.Io.KnownBytes.{Appends};
 ghost use Rattle.io_ends.specs.Causes.{Rose};
 ghost use Rattle.frame_types.specs.Asks.{asked_view};
 ghost use Rattle.hub_spec.specs.Histories.{Entry};
-ghost use Rattle.session_core.specs.Answers.{Answered, PartOf, asked_in, script_limit};
-ghost use Rattle.session_core.specs.Faults.{end_of};
+ghost use Rattle.session_core.specs.Answers.{Answered, PartOf, asked_in, reply_line, script_limit};
+ghost use Rattle.session_core.specs.Faults.{end_of, fault_end};
 ghost use Rattle.session_core.specs.Outcome.{Moved, Outcome};
+ghost use Rattle.session_core.specs.Running.{Runs, counted};
 
-use cell_core::{Memory, Text};
+use cell_core::Memory;
 use frame_json::{read_request, write_reply};
-use frame_types::{Asked, FrameCause, Request};
+use frame_types::{Asked, FrameCause, Reply, Request};
 use hub_spec::Caller;
 use io_ends::{Line, LineFault, LineReader, Sink, SinkFault, Source, write_whole};
 use std::alloc::Global;
@@ -132,15 +133,57 @@ fn answer_lines<S: Source, K: Sink, C: Caller>(
     let mut reader = LineReader::make(alloc, LONGEST)?;
     let mut count: u64 = 0;
     'lines: loop {
-        let line = reader.next(source)?;
-        let Some(asked) = asked_by(alloc, line)? else {
+        if !answer_next(alloc, caller, &mut reader, source, sink)? {
             break 'lines;
-        };
-        answer(alloc, caller, asked, sink)?;
+        }
         count = count.saturating_add(1);
     }
     sink.flush()?;
     Ok(count)
+}
+
+/// Answers the next line, and tells whether there was one.
+fn answer_next<S: Source, K: Sink, C: Caller>(
+    alloc: Global,
+    caller: &mut C,
+    reader: &mut LineReader,
+    source: &mut S,
+    sink: &mut K,
+) -> Result<bool, Fault>
+    requires usable { reader.old.failed ≡ false }
+    requires within { reader.old.given ≤ 2 ^ 30 }
+    requires longest { reader.old.longest ≡ LONGEST }
+    requires limit { C.limit caller.old ≡ script_limit }
+
+    // What was read and written so far, from whatever it began with.
+    ensures ok { IfOk result (λ more. (before : Option (List ℕ)) (into : Option (List ℕ)) (count : ℕ)
+        → Runs before (S.left source.old) into (K.written sink.old) reader.old count (C.stands caller.old)
+        → Runs before (S.left source.new) into (K.written sink.new) reader.new (counted more count) (C.stands caller.new)) }
+    ensures last { IfOk result (λ more. more ≡ false → reader.new.ended ≡ true) }
+    ensures err { IfErr result (λ why. (before : Option (List ℕ)) (into : Option (List ℕ)) (count : ℕ)
+        → Runs before (S.left source.old) into (K.written sink.old) reader.old count (C.stands caller.old)
+        → Moved before (S.left source.new) into (K.written sink.new) (Outcome (fault_end why) (S.left source.new))) }
+
+    // What the next call needs.
+    ensures usable { OnOk result (reader.new.failed ≡ false) }
+    ensures within { OnOk result (reader.new.given ≤ 2 ^ 30) }
+    ensures takes { IfOk result (λ more. more ≡ true
+        → reader.old.given + length reader.new.held < reader.new.given + length reader.old.held) }
+    ensures longest { reader.new.longest ≡ LONGEST }
+    ensures limit { C.limit caller.new ≡ script_limit }
+
+    // When each fault comes.
+    ensures source_later { S.faults source.old ≤ S.faults source.new }
+    ensures sink_later { K.faults sink.old ≤ K.faults sink.new }
+    ensures read { IsErrOf result Fault.Read → Rose (S.faults source.old) (S.faults source.new) }
+    ensures write { IsErrOf result Fault.Write → Rose (K.faults sink.old) (K.faults sink.new) }
+{
+    let line = reader.next(source)?;
+    let Some(asked) = asked_by(alloc, line)? else {
+        return Ok(false);
+    };
+    answer(alloc, caller, asked, sink)?;
+    Ok(true)
 }
 
 /// What a line asks, and nothing at the end.
@@ -180,16 +223,16 @@ fn answer<K: Sink, C: Caller>(
     ensures no_many { IsErrOf result Fault.TooLong → ⊥ }
 {
     let reply = caller.call(asked.session, asked.request);
-    let line = line_of(write_reply(alloc, &reply)?)?;
+    let line = rendered(alloc, &reply)?;
     write_whole(sink, line.as_bytes())?;
     Ok(())
 }
 
-/// The text and its line end.
-fn line_of(text: Text) -> Result<String, Memory>
-    ensures { IfOk result (λ line. string_bytes line ≡ text ++ 10 ∷ []) }
+/// The reply's text and its line end.
+fn rendered(alloc: Global, reply: &Reply) -> Result<String, Memory>
+    ensures { IfOk result (λ line. string_bytes line ≡ reply_line reply.now) }
 {
-    let mut line = text.into_string();
+    let mut line = write_reply(alloc, reply)?.into_string();
     line.push('\n')?;
     Ok(line)
 }
