@@ -11,9 +11,9 @@ use Rattle.hub_spec.specs.Answered.{Answered, entries_of}
 use Rattle.hub_spec.specs.Answers.{plain}
 use Rattle.hub_spec.specs.Histories.{Entry, answered, answer, choice_of, chosen, may_choose, is_allowed, IsLegal, told, followed}
 use Rattle.hub_spec.specs.Ports.{version_after}
-use Rattle.hub_spec.specs.Runs.{IsAnswer}
+use Rattle.hub_spec.specs.Runs as runs
 use Rattle.hub_core.specs.Holding.{Holds, Does, plain_in, with_step}
-use Rattle.hub_core.specs.Standing.{Stands, StandsFor, Stepped, limit_of}
+use Rattle.hub_core.specs.Standing.{Stands, StandsFor, limit_of}
 use Rattle.hub_core.specs.declared.hub.Hub.{Hub}
 use Rattle.hub_core.proofs.Counting.{times_le}
 
@@ -38,7 +38,7 @@ numbered hub h session n s lt is =
 -- a full history
 pub full_steps : (hub : Hub) (h : List Entry) (session n : ℕ) (request : Ask) → StandsFor hub h → session < 66 → hub.limit ≤ hub.entries
     → n ≡ min (get_or hub.counts session 0 + 1) (2 ^ 64 - 1)
-    → Stepped hub h session request (record { n = n; version = hub.machine.version; body = body.Refused (history_full hub.limit) }) hub
+    → runs.Steps (limit_of hub) h session request (record { n = n; version = hub.machine.version; body = body.Refused (history_full hub.limit) }) (StandsFor hub)
 unfolding StandsFor limit_of
 full_steps hub h session n request s lt full is =
     let past : List Answered = answered hub.limit h in
@@ -75,7 +75,7 @@ pub counted_steps : (before after : Hub) (h : List Entry) (session n : ℕ) (req
     → after.limit ≡ before.limit → after.entries ≡ before.entries + 1 → after.counts ≡ set before.counts session n
     → n ≡ min (get_or before.counts session 0 + 1) (2 ^ 64 - 1)
     → ((past : List Answered) → Holds before.machine past → length past < 2 ^ 53 → Does past session request body after.machine)
-    → Stepped before h session request (record { n = n; version = after.machine.version; body = body }) after
+    → runs.Steps (limit_of before) h session request (record { n = n; version = after.machine.version; body = body }) (StandsFor after)
 unfolding StandsFor limit_of
 counted_steps before after h session n request body s lt room limit entries counts is acts =
     let past : List Answered = answered before.limit h in

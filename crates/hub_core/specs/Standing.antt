@@ -1,10 +1,7 @@
 -- Which histories a hub stands for.
 use Rattle.std.specs.Prelude.{◌≡◌, ℕ, ◌+◌, ◌<◌, ◌^◌, List, length, slice_index}
-use Rattle.frame_types.specs.Asks.{Ask}
-use Rattle.frame_types.specs.declared.reply.Reply.{Reply}
 use Rattle.hub_spec.specs.Answered.{entries_of}
-use Rattle.hub_spec.specs.Histories.{Entry, answered, IsLegal, told, followed}
-use Rattle.hub_spec.specs.Runs.{IsAnswer}
+use Rattle.hub_spec.specs.Histories.{Entry, answered, IsLegal}
 use Rattle.hub_core.specs.Holding.{Holds}
 use Rattle.hub_core.specs.declared.hub.Hub.{Hub}
 
@@ -24,8 +21,3 @@ StandsFor hub h = Stands hub h
 -- how many requests the hub answers
 unfoldable pub limit_of : Hub → ℕ
 limit_of hub = hub.limit
-
--- the reply is the answer after the history, and the hub stands for what follows
-pub record Stepped (before : Hub) (h : List Entry) (session : ℕ) (request : Ask) (reply : Reply) (after : Hub) : Type 0 where
-  pub answer : IsAnswer (limit_of before) h session request reply
-  pub stands : StandsFor after (followed (limit_of before) h (told session request reply))

@@ -1,7 +1,8 @@
 ghost use Rattle.std.specs.Prelude.{◌≡◌, List, [], ◌<◌, ◌≤◌, ◌^◌, IfOk};
 ghost use Rattle.frame_types.specs.Asks.{request_view};
 ghost use Rattle.hub_spec.specs.Histories.{Entry};
-ghost use Rattle.hub_core.specs.Standing.{StandsFor, Stepped, limit_of};
+ghost use Rattle.hub_spec.specs.Runs as runs;
+ghost use Rattle.hub_core.specs.Standing.{StandsFor, limit_of};
 
 use crate::machine::{Machine, SESSIONS};
 use crate::refused;
@@ -44,7 +45,7 @@ impl Hub {
     pub fn step<L: Ledger>(&mut self, session: u32, request: Request, steps: &mut Steps<L>) -> Reply
         requires { session ≤ 65 }
         ensures steps { (h : List Entry) → StandsFor self.old h
-            → Stepped self.old h session (request_view request) result self.new }
+            → runs.Steps (limit_of self.old) h session (request_view request) result (StandsFor self.new) }
         ensures limit { limit_of self.new ≡ limit_of self.old }
     {
         let n = self.counts[session as usize].saturating_add(1);

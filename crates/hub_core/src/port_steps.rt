@@ -11,11 +11,11 @@ ghost use Rattle.hub_core.specs.Tables.{store_in};
 ghost use Rattle.hub_core.specs.Holding.{Holds, Does, DoesBy, queue_answer};
 
 use crate::machine::Machine;
-use crate::queues::{Queue, room_after, row_count};
+use crate::queues::{Queue, room_after};
 use crate::refused;
-use crate::stand_ins::batch_rows;
 use cell_core::{MAX_ROWS, Raw};
 use frame_types::Body;
+use json_rows::batch_rows;
 use row_batch::Batch;
 
 impl Machine {
@@ -66,7 +66,7 @@ impl Machine {
         if self.queues[port].is_full() {
             return refused::unbuilt();
         }
-        if self.is_overfull(row_count(&batch)) {
+        if self.is_overfull(batch.rows()) {
             return refused::unbuilt();
         }
         let queue = &mut self.queues[port];

@@ -1,6 +1,5 @@
 ghost use Rattle.std.specs.Prelude.{◌≡◌, ◌+◌, ◌-◌, ◌<◌, ◌^◌, nat_le, [], ◌∷◌, ◌++◌, length, drop, slice_get, min, OnOk, OnErr};
 ghost use Rattle.std.specs.Option.{option_copied};
-ghost use Rattle.row_batch.specs.Batches.{rows_in};
 ghost use Rattle.hub_core.specs.Queues.{no_queue, rows_in_queue, rows_in_queues};
 
 use cell_core::{Listed, Memory};
@@ -76,20 +75,9 @@ impl Queue {
     {
         let mut left = room;
         for batch in self.waiting.as_slice() {
-            left = left.saturating_sub(row_count(batch));
+            left = left.saturating_sub(batch.rows());
         }
         left
-    }
-}
-
-/// How many rows a batch has that wait to be put.
-pub fn row_count(batch: &Batch) -> usize
-    ensures { result ≡ rows_in batch.now }
-{
-    match batch {
-        Batch::Update(patches) => patches.len(),
-        Batch::Replace(patches) => patches.len(),
-        Batch::Remove(_) | Batch::Clear => 0,
     }
 }
 

@@ -1,15 +1,14 @@
 ghost use Rattle.std.specs.Prelude.{◌≡◌, map, OnOk, OnErr};
+ghost use Rattle.plain_data.specs.Distinct.{AreDistinct};
 ghost use Rattle.row_batch.specs.Batches.{empty_store, put_batch};
-ghost use Rattle.view_types.specs.Distinct.{AreDistinct};
 
-use crate::queues::row_count;
-use crate::stand_ins::PlainTable;
 use cell_core::{Memory, Schema};
-use row_batch::{Batch, Pair};
+use row_batch::{Batch, Pair, PlainTable};
 use std::alloc::Global;
 use std::marker::Model;
 
-/// The most rows that a table is ever given, over its whole life.
+/// The most rows that a table without an index is given from one `Clear` to the next. Its keys are
+/// numbers below it.
 const MAX_GIVEN: u64 = 1 << 62;
 
 /// The table: its schema, and its rows.
@@ -17,20 +16,17 @@ const MAX_GIVEN: u64 = 1 << 62;
 pub struct Table {
     schema: Schema,
     rows: PlainTable,
-    /// At least as many rows as were given to the table since it was made or cleared.
-    given: u64,
 }
 
 impl Model for Table {
-    ghost use Rattle.std.specs.Prelude.{◌≤◌};
+    ghost use Rattle.row_batch.specs.Tables.{IsCounted};
     ghost use Rattle.hub_core.specs.Tables.{TableData};
-    ghost use Rattle.hub_core.specs.StandIns.{IsCounted};
 
     ghost Value = { TableData };
 
     ghost view = { λ t. record { schema = t.schema; store = t.rows } };
 
-    ghost invariant = { λ t. IsCounted t.schema.keeping t.rows × (t.rows.number ≤ t.given) };
+    ghost invariant = { λ t. IsCounted t.schema.keeping t.rows };
 }
 
 impl Table {
@@ -39,11 +35,8 @@ impl Table {
         ensures schema { result.schema ≡ schema }
         ensures empty { result.store ≡ empty_store }
     {
-        Table {
-            schema,
-            rows: PlainTable::make(alloc),
-            given: 0,
-        }
+        let rows = PlainTable::make(alloc);
+        Table { schema, rows }
     }
 
     pub fn schema(&self) -> &Schema
@@ -66,12 +59,10 @@ impl Table {
         ensures ok { OnOk result (self.new.store ≡ put_batch self.old.schema self.old.store batch.now) }
         ensures err { OnErr result (self.new.store ≡ self.old.store) }
     {
-        let given = self.given.saturating_add(row_count(batch) as u64);
+        let given = self.rows.number().saturating_add(batch.rows() as u64);
         if given > MAX_GIVEN {
             return Err(Memory);
         }
-        self.rows.put(alloc, &self.schema, batch)?;
-        self.given = given;
-        Ok(())
+        self.rows.put(alloc, &self.schema, batch)
     }
 }

@@ -8,10 +8,10 @@ ghost use Rattle.hub_core.specs.Holding.{Holds, Does};
 
 use crate::machine::Machine;
 use crate::refused;
-use crate::stand_ins::{show, show_window};
 use crate::views::{View, find_view};
 use cell_core::{Raw, RawMap};
 use frame_types::Body;
+use plain_view::{show, show_window};
 
 impl Machine {
     /// Opens a view.

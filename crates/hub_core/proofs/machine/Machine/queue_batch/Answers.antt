@@ -15,7 +15,7 @@ returns-then-is_overfull c = λ past h few session request asked may.
     rw c.unbuilt-then-is_overfull.ensures (
       overfull_does m past c.args.port c.args.batch c.index.result.now session request h at
       (sym c.is_full.ensures ∙ c.if-is_full.false)
-      (ap (λ k. ltb 65536 (length (store_in m.table).pairs + rows_in_queues m.queues.items + k)) (sym c.row_count.ensures) ∙ sym c.is_overfull.ensures ∙ c.if-is_overfull.true))
+      (ap (λ k. ltb 65536 (length (store_in m.table).pairs + rows_in_queues m.queues.items + k)) (sym c.rows.ensures) ∙ sym c.is_overfull.ensures ∙ c.if-is_overfull.true))
 
 pub returns : goal.returns
 returns c = λ past h few session request asked may.
@@ -27,7 +27,7 @@ returns c = λ past h few session request asked may.
         c.index_mut-queue.ensures.value ∙ get_or_default m.queues.items c.args.port q no_queue (omega arith) in
     queued_does m past c.args.port c.args.batch q c.put.new.self c.next_seq-seq.result session request h few (omega arith) at
     (ap (λ x. leb 64 (length x.waiting)) (at ∙ sym read) ∙ sym c.is_full.ensures ∙ c.if-is_full.false)
-    (ap (λ k. ltb 65536 (length (store_in m.table).pairs + rows_in_queues m.queues.items + k)) (sym c.row_count.ensures) ∙ sym c.is_overfull.ensures ∙ c.if-is_overfull.false)
+    (ap (λ k. ltb 65536 (length (store_in m.table).pairs + rows_in_queues m.queues.items + k)) (sym c.rows.ensures) ∙ sym c.is_overfull.ensures ∙ c.if-is_overfull.false)
     asked
     (on_ok _ c.put.result (sym c.is_err.ensures.value ∙ c.if-is_err.false) c.put.ensures.ok)
     c.next_seq-seq.ensures
