@@ -7,8 +7,7 @@ use row_batch::{Batch, Pair, PlainTable};
 use std::alloc::Global;
 use std::marker::Model;
 
-/// The most rows that a table without an index is given from one `Clear` to the next. Its keys are
-/// numbers below it.
+/// The most rows that a table is given. Running numbers stay below it.
 const MAX_GIVEN: u64 = 1 << 62;
 
 /// The table: its schema, and its rows.
@@ -16,9 +15,12 @@ const MAX_GIVEN: u64 = 1 << 62;
 pub struct Table {
     schema: Schema,
     rows: PlainTable,
+    /// How many rows the applied batches had.
+    given: u64,
 }
 
 impl Model for Table {
+    ghost use Rattle.std.specs.Prelude.{◌≤◌};
     ghost use Rattle.row_batch.specs.Tables.{IsCounted};
     ghost use Rattle.hub_core.specs.Tables.{TableData};
 
@@ -26,7 +28,7 @@ impl Model for Table {
 
     ghost view = { λ t. record { schema = t.schema; store = t.rows } };
 
-    ghost invariant = { λ t. IsCounted t.schema.keeping t.rows };
+    ghost invariant = { λ t. IsCounted t.schema.keeping t.rows × (t.rows.number ≤ t.given) };
 }
 
 impl Table {
@@ -35,8 +37,11 @@ impl Table {
         ensures schema { result.schema ≡ schema }
         ensures empty { result.store ≡ empty_store }
     {
-        let rows = PlainTable::make(alloc);
-        Table { schema, rows }
+        Table {
+            schema,
+            rows: PlainTable::make(alloc),
+            given: 0,
+        }
     }
 
     pub fn schema(&self) -> &Schema
@@ -59,10 +64,12 @@ impl Table {
         ensures ok { OnOk result (self.new.store ≡ put_batch self.old.schema self.old.store batch.now) }
         ensures err { OnErr result (self.new.store ≡ self.old.store) }
     {
-        let given = self.rows.number().saturating_add(batch.rows() as u64);
+        let given = self.given.saturating_add(batch.rows() as u64);
         if given > MAX_GIVEN {
             return Err(Memory);
         }
-        self.rows.put(alloc, &self.schema, batch)
+        self.rows.put(alloc, &self.schema, batch)?;
+        self.given = given;
+        Ok(())
     }
 }
