@@ -13,8 +13,8 @@ pub times_le : (test : Answered → Bool) (past : List Answered) → times test 
 times_le test [] = omega arith
 times_le test (d ∷ past) =
     elim (test d) as (λ b. (if b then times test past + 1 else times test past) ≤ length (d ∷ past)) [
-      true ↦ omega (arith, times_le test past)
-    | false ↦ omega (arith, times_le test past)
+      | true ↦ omega (arith, times_le test past)
+      | false ↦ omega (arith, times_le test past)
     ]
 
 batch_le : (batch : Option Batch) (batches : List Batch) → length (with_batch batch batches) ≤ length batches + 1
@@ -24,8 +24,8 @@ batch_le (Some b) batches = omega (arith, length-append batches (b ∷ []))
 queued_le : (made : Option SchemaData) (port : ℕ) (answer : Body) (request : Ask) (batches : List Batch) → length (with_queued made port answer request batches) ≤ length batches + 1
 queued_le made port (body.Queued at seq) request batches =
     elim (eqb at port) as (λ b. length (if b then with_batch (batch_asked made request) batches else batches) ≤ length batches + 1) [
-      true ↦ batch_le (batch_asked made request) batches
-    | false ↦ omega arith
+      | true ↦ batch_le (batch_asked made request) batches
+      | false ↦ omega arith
     ]
 queued_le made port _ request batches = omega arith
 

@@ -57,9 +57,9 @@ apply_does m past port before table q after number b h few session is lt at fron
     let plain : plain_in past session (ask.apply port) ≡ body.Applied port (ports.taken past port + 1) = rw (some, has, tested) refl in
     let taken : q.taken ≡ ports.taken past port = ap (λ x. x.taken) at ∙ h.queues.taken port in
     let one_more : after.taken ≡ q.taken + 1 =
-        ap (λ x. x.taken) took ∙ omega (arith, taken, h.queues.within port, accepted_le past port) in
+    ap (λ x. x.taken) took ∙ omega (arith, taken, h.queues.within port, accepted_le past port) in
     let went : after ≡ record { waiting = drop 1 q.waiting; taken = q.taken + 1 } =
-        took ∙ ap (λ k. record { waiting = drop 1 q.waiting; taken = k }) (sym (ap (λ x. x.taken) took) ∙ one_more) in
+    took ∙ ap (λ k. record { waiting = drop 1 q.waiting; taken = k }) (sym (ap (λ x. x.taken) took) ∙ one_more) in
     let raised : number ≡ m.version + 1 = omega (arith, next, h.table.version, applied_le past) in
     record {
       given = record { right = ap (body.Applied port) (one_more ∙ ap (λ k. k + 1) taken) ∙ sym plain; allowed = refl };
@@ -94,8 +94,8 @@ open_does m past session plan bound t shown views next h few lt is none empty sh
     let view : held.HeldView = held.opened_view session (held.opened past session) plan bound in
     let grants : plain_in past session (ask.open_view plan bound) ≡ granted past session (ask.open_view plan bound) = rw (some, bare, empty) refl in
     let plain : plain_in past session (ask.open_view plan bound) ≡ body.Opened 0 shown (get_or m.opened session 0) =
-        grants ∙ ap (body.Opened 0 (held.shown past view)) (sym number)
-        ∙ ap (λ s. body.Opened 0 s (get_or m.opened session 0)) (shows_rows m past t view h is ∙ sym shows) in
+    grants ∙ ap (body.Opened 0 (held.shown past view)) (sym number)
+    ∙ ap (λ s. body.Opened 0 s (get_or m.opened session 0)) (shows_rows m past t view h is ∙ sym shows) in
     let raised : next ≡ held.opened past session + 1 = omega (arith, next_is, number, times_le (held.is_opened_in session) past) in
     record {
       given = record { right = sym plain; allowed = refl };
@@ -161,8 +161,8 @@ rows_does m past session view first end t part size v h is found ordered lives c
     let shown : Shown = flat_view t.schema t.store.pairs in
     let kept : option_map kept_view (held.held past session view) ≡ Some v = found_is m past session view h ∙ found in
     let plain : plain_in past session (ask.rows view first end) ≡ body.Rows v.edit first (window first end shown) (length shown.rows) view =
-        rows_is m past session view first end t v h is found ordered
-        ∙ kept_of_held (held.held past session view) v (held.shown past) shown view first end kept lives (λ w. shows_rows m past t w h is) in
+    rows_is m past session view first end t v h is found ordered
+    ∙ kept_of_held (held.held past session view) v (held.shown past) shown view first end kept lives (λ w. shows_rows m past t w h is) in
     record {
       given = record { right = ap (λ p. body.Rows v.edit first p size view) cut ∙ ap (λ k. body.Rows v.edit first (window first end shown) k view) counted ∙ sym plain; allowed = refl };
       holds = λ n version. record {

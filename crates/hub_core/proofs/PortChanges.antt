@@ -19,10 +19,10 @@ field_after : {X : Type 0} (f : Queue → X) (queues : List Queue) (port : ℕ) 
     → (p : ℕ) → f (queue_at (set queues port q) p) ≡ after p
 field_after f queues port q before after lt was here others p =
     elim (cases_eq port p) as (λ _. f (queue_at (set queues port q) p) ≡ after p) [
-      inl same ↦ rw (← same) (ap f (get_or-set_same queues port q no_queue lt) ∙ here)
-    | inr other ↦
-        let apart : p ≡ port → ⊥ = λ e. other (sym e) in
-        ap f (get_or-set_other queues port p q no_queue apart) ∙ was p ∙ sym (others p other)
+      | inl same ↦ rw (← same) (ap f (get_or-set_same queues port q no_queue lt) ∙ here)
+      | inr other ↦
+          let apart : p ≡ port → ⊥ = λ e. other (sym e) in
+          ap f (get_or-set_other queues port p q no_queue apart) ∙ was p ∙ sym (others p other)
     ]
 
 -- what is accepted on each port after an answer `queued`
@@ -47,19 +47,19 @@ queued_ports queues past session request n version port seq batch q after h lt a
       count = length-set queues port after ∙ h.count;
       waiting = field_after (λ x. x.waiting) queues port after (ports.waiting past) (ports.waiting now) lt h.waiting
           (ap (λ x. x.waiting) put ∙ ap (λ x. x.waiting ++ batch ∷ []) at ∙ ap (λ x. x ++ batch ∷ []) (h.waiting port)
-              ∙ sym (drop-append-le (ports.taken past port) (ports.accepted past port) (batch ∷ []) (h.within port))
-              ∙ ap (drop (ports.taken past port)) (sym here))
+          ∙ sym (drop-append-le (ports.taken past port) (ports.accepted past port) (batch ∷ []) (h.within port))
+          ∙ ap (drop (ports.taken past port)) (sym here))
           (λ p other. ap (drop (ports.taken past p)) (accepted_else past session request n version port seq p other));
       taken = field_after (λ x. x.taken) queues port after (ports.taken past) (ports.taken past) lt h.taken
           (ap (λ x. x.taken) put ∙ ap (λ x. x.taken) at ∙ h.taken port)
           (λ p other. refl);
       within = λ p.
           elim (cases_eq port p) as (λ _. ports.taken past p ≤ length (ports.accepted now p)) [
-            inl same ↦
-              let At : ℕ → Type 0 = λ x. ports.taken past x ≤ length (ports.accepted now x) in
-              let Of : List Batch → Type 0 = λ xs. ports.taken past port ≤ length xs in
-              subst At same (subst Of (sym here) (omega (arith, h.within port, length-append (ports.accepted past port) (batch ∷ []))))
-          | inr other ↦ rw (accepted_else past session request n version port seq p other) (h.within p)
+            | inl same ↦
+                let At : ℕ → Type 0 = λ x. ports.taken past x ≤ length (ports.accepted now x) in
+                let Of : List Batch → Type 0 = λ xs. ports.taken past port ≤ length xs in
+                subst At same (subst Of (sym here) (omega (arith, h.within port, length-append (ports.accepted past port) (batch ∷ []))))
+            | inr other ↦ rw (accepted_else past session request n version port seq p other) (h.within p)
           ];
     }
 
@@ -83,19 +83,19 @@ applied_ports queues past session request n version port seq q after h lt some a
       count = length-set queues port after ∙ h.count;
       waiting = field_after (λ x. x.waiting) queues port after (ports.waiting past) (ports.waiting now) lt h.waiting
           (ap (λ x. x.waiting) took ∙ ap (λ x. drop 1 x.waiting) at ∙ ap (drop 1) (h.waiting port)
-              ∙ drop-drop 1 (ports.taken past port) (ports.accepted past port)
-              ∙ ap (λ k. drop k (ports.accepted past port)) (sym here))
+          ∙ drop-drop 1 (ports.taken past port) (ports.accepted past port)
+          ∙ ap (λ k. drop k (ports.accepted past port)) (sym here))
           (λ p other. ap (λ k. drop k (ports.accepted past p)) (taken_else past session request n version port seq p other));
       taken = field_after (λ x. x.taken) queues port after (ports.taken past) (ports.taken now) lt h.taken
           (ap (λ x. x.taken) took ∙ ap (λ x. x.taken + 1) at ∙ ap (λ k. k + 1) (h.taken port) ∙ sym here)
           (λ p other. taken_else past session request n version port seq p other);
       within = λ p.
           elim (cases_eq port p) as (λ _. ports.taken now p ≤ length (ports.accepted past p)) [
-            inl same ↦
-              let At : ℕ → Type 0 = λ x. ports.taken now x ≤ length (ports.accepted past x) in
-              let Of : ℕ → Type 0 = λ k. k ≤ length (ports.accepted past port) in
-              subst At same (subst Of (sym here) (omega (arith, some, length-drop (ports.taken past port) (ports.accepted past port))))
-          | inr other ↦ rw (taken_else past session request n version port seq p other) (h.within p)
+            | inl same ↦
+                let At : ℕ → Type 0 = λ x. ports.taken now x ≤ length (ports.accepted past x) in
+                let Of : ℕ → Type 0 = λ k. k ≤ length (ports.accepted past port) in
+                subst At same (subst Of (sym here) (omega (arith, some, length-drop (ports.taken past port) (ports.accepted past port))))
+            | inr other ↦ rw (taken_else past session request n version port seq p other) (h.within p)
           ];
     }
 

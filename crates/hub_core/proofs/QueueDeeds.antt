@@ -71,7 +71,7 @@ queued_does m past port b q after seq session request h few lt at free room aske
     let fits : is_overfull past (Some b) ≡ false = overfull_is m past b h ∙ room in
     let granted : queue_answer past port b ≡ body.Queued port (length (ports.accepted past port) + 1) = rw (open_port, fits) refl in
     let seq_is : seq ≡ length (ports.accepted past port) + 1 =
-        omega (arith, next, next_is m.queues.items past port q h.queues at, accepted_le past port) in
+    omega (arith, next, next_is m.queues.items past port q h.queues at, accepted_le past port) in
     record {
       given = record { right = ap (body.Queued port) seq_is ∙ sym granted; allowed = refl };
       holds = λ n version. record {

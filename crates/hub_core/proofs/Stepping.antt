@@ -59,14 +59,14 @@ count_after : (counts : List ℕ) (past : List Answered) (session other : ℕ) �
     → get_or (set counts session (entries_of past session + 1)) other 0 ≡ (if eqb session other then entries_of past other + 1 else entries_of past other)
 count_after counts past session other size lt was =
     elim (cases_eq session other) as (λ _. get_or (set counts session (entries_of past session + 1)) other 0
-        ≡ (if eqb session other then entries_of past other + 1 else entries_of past other)) [
-      inl same ↦
-        let within : session < length counts = omega (arith, size) in
-        let At : ℕ → Type 0 = λ x. get_or (set counts session (entries_of past session + 1)) x 0 ≡ (if eqb session x then entries_of past x + 1 else entries_of past x) in
-        subst At same (rw (eq-eqb session session refl) (get_or-set_same counts session (entries_of past session + 1) 0 within))
-    | inr apart ↦
-        let apart_too : other ≡ session → ⊥ = λ e. apart (sym e) in
-        rw (ne_eqb session other apart) (get_or-set_other counts session other (entries_of past session + 1) 0 apart_too ∙ was)
+    ≡ (if eqb session other then entries_of past other + 1 else entries_of past other)) [
+      | inl same ↦
+          let within : session < length counts = omega (arith, size) in
+          let At : ℕ → Type 0 = λ x. get_or (set counts session (entries_of past session + 1)) x 0 ≡ (if eqb session x then entries_of past x + 1 else entries_of past x) in
+          subst At same (rw (eq-eqb session session refl) (get_or-set_same counts session (entries_of past session + 1) 0 within))
+      | inr apart ↦
+          let apart_too : other ≡ session → ⊥ = λ e. apart (sym e) in
+          rw (ne_eqb session other apart) (get_or-set_other counts session other (entries_of past session + 1) 0 apart_too ∙ was)
     ]
 
 -- a step that is counted
@@ -96,10 +96,10 @@ counted_steps before after h session n request body s lt room limit entries coun
     let legal : IsLegal after.limit (e ∷ h) = subst LegalUnder (sym limit) (s.legal, omega (arith, s.entries), allowed) in
     let machine : Holds after.machine (answered after.limit (e ∷ h)) = subst HoldsUnder (sym limit) (subst IsOf right held) in
     let one_more : (other : ℕ) → other < 66 → get_or (set before.counts session n) other 0 ≡ entries_of (answered before.limit (e ∷ h)) other =
-        λ other lt_other. ap (λ k. get_or (set before.counts session k) other 0) counted
-            ∙ count_after before.counts past session other s.sessions lt (s.counts other lt_other) in
+    λ other lt_other. ap (λ k. get_or (set before.counts session k) other 0) counted
+    ∙ count_after before.counts past session other s.sessions lt (s.counts other lt_other) in
     let all_counts : (other : ℕ) → other < 66 → get_or after.counts other 0 ≡ entries_of (answered after.limit (e ∷ h)) other =
-        λ other lt_other. ap (λ xs. get_or xs other 0) counts ∙ one_more other lt_other ∙ ap (λ l. entries_of (answered l (e ∷ h)) other) (sym limit) in
+    λ other lt_other. ap (λ xs. get_or xs other 0) counts ∙ one_more other lt_other ∙ ap (λ l. entries_of (answered l (e ∷ h)) other) (sym limit) in
     let small : after.limit < 2 ^ 53 = omega (arith, limit, s.small) in
     let next : Stands after (e ∷ h) = record {
       small = small;

@@ -31,7 +31,7 @@ pub applied_table : (table : Option TableData) (before after : TableData) (numbe
 applied_table table before after number past session request n version port seq batch rest h is first same put =
     let this : Applied = record { port = port; seq = taken past port + 1; batch = batch } in
     let done : with_first (waiting past port) port (taken past port + 1) (applied past) ≡ applied past ++ this ∷ [] =
-        first_of_waiting (waiting past port) batch rest port (taken past port + 1) (applied past) first in
+    first_of_waiting (waiting past port) batch rest port (taken past port + 1) (applied past) first in
     let some : ports.schema past ≡ Some before.schema = sym h.schema ∙ ap schema_in is in
     let kept : before.store ≡ store past = sym (ap store_in is) ∙ h.kept in
     record {

@@ -42,17 +42,17 @@ pub opened_views : (kept : List View) (counts : List ℕ) (past : List Answered)
     → HoldsViews kept counts past → session < 66
     → view ≡ record { session = session; number = held.opened past session; bound = bound; edit = 0; lost = None }
     → HoldsViews (kept ++ view ∷ []) (set counts session (held.opened past session + 1))
-        (with_step session (ask.open_view plan bound) n version (body.Opened 0 shown (held.opened past session)) past)
+    (with_step session (ask.open_view plan bound) n version (body.Opened 0 shown (held.opened past session)) past)
 opened_views kept counts past session plan bound n version shown view h lt is = record {
   views = rw is (rw map-append (ap (λ vs. vs ++ record { session = session; number = held.opened past session; bound = bound; edit = 0; lost = None } ∷ []) h.views));
   sessions = length-set counts session (held.opened past session + 1) ∙ h.sessions;
   opened = λ s few.
       elim (cases_eq session s) as (λ _. get_or (set counts session (held.opened past session + 1)) s 0
-          ≡ (if eqb session s && true then held.opened past s + 1 else held.opened past s)) [
-        inl same ↦
+      ≡ (if eqb session s && true then held.opened past s + 1 else held.opened past s)) [
+        | inl same ↦
             let within : session < length counts = omega (arith, h.sessions) in
             rw (← same) (rw (eq-eqb session session refl) (get_or-set_same counts session (held.opened past session + 1) 0 within))
-      | inr other ↦
+        | inr other ↦
             let apart : s ≡ session → ⊥ = λ e. other (sym e) in
             rw (ne_eqb session s other) (get_or-set_other counts session s (held.opened past session + 1) 0 apart ∙ h.opened s few)
       ];
@@ -66,7 +66,7 @@ pub find-kept : (session number : ℕ) (vs : List held.HeldView) → find (is_ke
 find-kept session number [] = refl
 find-kept session number (v ∷ vs) =
     elim (held.is_view session number v) as (λ b. (if b then Some (kept_view v) else find (is_kept session number) (map kept_view vs))
-        ≡ option_map kept_view (if b then Some v else find (held.is_view session number) vs)) [
-      true ↦ refl
-    | false ↦ find-kept session number vs
+    ≡ option_map kept_view (if b then Some v else find (held.is_view session number) vs)) [
+      | true ↦ refl
+      | false ↦ find-kept session number vs
     ]

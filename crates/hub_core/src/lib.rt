@@ -20,3 +20,6 @@ mod views;
 
 pub use hub::Hub;
 pub use local::LocalCaller;
+
+#[cfg(test)]
+mod tests;

@@ -7,7 +7,7 @@ use Rattle.hub_core.proofs.hub.Hub.step.Goals as goal
 pub returns-then-self-clause-steps : goal.returns-then-self-clause-steps
 returns-then-self-clause-steps g c = λ h s.
     rw c.history_full.ensures (
-      full_steps c.args.self.now h c.args.session c.saturating_add-n.result (request_view c.args.request) s (omega arith) (omega arith) c.saturating_add-n.ensures)
+    full_steps c.args.self.now h c.args.session c.saturating_add-n.result (request_view c.args.request) s (omega arith) (omega arith) c.saturating_add-n.ensures)
 
 pub returns-clause-steps : goal.returns-clause-steps
 returns-clause-steps g c = λ h s.

@@ -9,15 +9,15 @@ use Rattle.hub_core.proofs.machine.Machine.rows.Goals as goal
 pub returns-in_default-find_view : goal.returns-in_default-find_view
 returns-in_default-find_view c = λ past h few.
     rw c.unbuilt.ensures (
-      rows_refused c.args.self.now past c.args.session c.args.view c.args.from c.args.to c.in-Some.table h c.in-Some.is
-      (sym (ap (find (is_kept c.args.session c.args.view)) c.as_slice.ensures.value) ∙ sym c.find_view.ensures ∙ ap option_copied c.in_default-find_view.is))
+    rows_refused c.args.self.now past c.args.session c.args.view c.args.from c.args.to c.in-Some.table h c.in-Some.is
+    (sym (ap (find (is_kept c.args.session c.args.view)) c.as_slice.ensures.value) ∙ sym c.find_view.ensures ∙ ap option_copied c.in_default-find_view.is))
 
 pub returns-in-Some-lost : goal.returns-in-Some-lost
 returns-in-Some-lost c = λ past h few.
     rw c.view_lost.ensures (
-      rows_lost c.args.self.now past c.args.session c.args.view c.args.from c.args.to c.in-Some-lost.version c.in-Some.table c.in-Some-find_view.held.now h c.in-Some.is
-      (sym (ap (find (is_kept c.args.session c.args.view)) c.as_slice.ensures.value) ∙ sym c.find_view.ensures ∙ ap option_copied c.in-Some-find_view.is)
-      (le-ltb c.args.to c.args.from (omega arith)) c.in-Some-lost.is)
+    rows_lost c.args.self.now past c.args.session c.args.view c.args.from c.args.to c.in-Some-lost.version c.in-Some.table c.in-Some-find_view.held.now h c.in-Some.is
+    (sym (ap (find (is_kept c.args.session c.args.view)) c.as_slice.ensures.value) ∙ sym c.find_view.ensures ∙ ap option_copied c.in-Some-find_view.is)
+    (le-ltb c.args.to c.args.from (omega arith)) c.in-Some-lost.is)
 
 pub returns : goal.returns
 returns c = λ past h few.

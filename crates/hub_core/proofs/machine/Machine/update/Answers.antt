@@ -16,7 +16,7 @@ returns-in-Ok-Some c = λ past h few session.
     let patches = c.in-Ok-Some.patches in
     let some : ports.schema past ≡ Some schema = sym h.table.schema ∙ ap schema_in c.in-Some.is in
     let has : ports.has_port past c.args.port ≡ true = has_port c.args.self.now past c.args.port h (omega arith) in
-    let read : patches_of schema raw ≡ Some patches = ap (λ s. patches_of s raw) (sym c.schema.ensures) ∙ sym c.in-Ok-Some.ensures ∙ c.in-Ok-Some.field-0-is in
+    let read : patches_of schema raw ≡ Some patches = ap (λ s. patches_of s raw) (sym c.schema.ensures) ∙ sym c.in-Ok-Some.ensures.found ∙ c.in-Ok-Some.field-0-is in
     let DoesAs : Body → Type 0 = λ plain. DoesBy plain past session (ask.update c.args.port raw) c.queue_batch.result c.queue_batch.new.self in
     subst DoesAs (sym (update_is past session c.args.port raw schema patches some has read))
     (c.queue_batch.ensures past h few session (ask.update c.args.port raw) (update_asks past c.args.port raw schema patches some read) (may_queue past c.args.port raw _ _ _))
