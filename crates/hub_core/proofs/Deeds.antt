@@ -43,10 +43,10 @@ pub apply_does : (m : Machine) (past : List Answered) (port : ℕ) (before table
     → Holds m past → length past < 2 ^ 53 → (session : ℕ)
     → m.table ≡ Some before → port < length m.queues.items → q ≡ queue_at m.queues.items port
     → slice_get q.waiting 0 ≡ Some b → table.schema ≡ before.schema → table.store ≡ put_batch before.schema before.store b
-    → after ≡ record { waiting = drop 1 q.waiting; taken = min (q.taken + 1) (2 ^ 64 - 1) }
+    → after.waiting ≡ drop 1 q.waiting → (q.taken + 1 < 2 ^ 64 → after.taken ≡ q.taken + 1)
     → number ≡ min (m.version + 1) (2 ^ 64 - 1)
     → Does past session (ask.apply port) (body.Applied port after.taken) (record m { table = Some table; version = number; queues = with_item m.queues port after })
-apply_does m past port before table q after number b h few session is lt at front same put took next =
+apply_does m past port before table q after number b h few session is lt at front same put left took next =
     let some : ports.schema past ≡ Some before.schema = sym h.table.schema ∙ ap schema_in is in
     let has : ports.has_port past port ≡ true = has_port m past port h lt in
     let waits : ports.waiting past port ≡ q.waiting = sym (ap (λ x. x.waiting) at ∙ h.queues.waiting port) in
@@ -56,10 +56,10 @@ apply_does m past port before table q after number b h few session is lt at fron
     let tested : eqb (length (ports.waiting past port)) 0 ≡ false = ne_eqb _ 0 waits_some in
     let plain : plain_in past session (ask.apply port) ≡ body.Applied port (ports.taken past port + 1) = rw (some, has, tested) refl in
     let taken : q.taken ≡ ports.taken past port = ap (λ x. x.taken) at ∙ h.queues.taken port in
-    let one_more : after.taken ≡ q.taken + 1 =
-    ap (λ x. x.taken) took ∙ omega (arith, taken, h.queues.within port, accepted_le past port) in
+    let small : q.taken + 1 < 2 ^ 64 = omega (arith, taken, h.queues.within port, accepted_le past port) in
+    let one_more : after.taken ≡ q.taken + 1 = took small in
     let went : after ≡ record { waiting = drop 1 q.waiting; taken = q.taken + 1 } =
-    took ∙ ap (λ k. record { waiting = drop 1 q.waiting; taken = k }) (sym (ap (λ x. x.taken) took) ∙ one_more) in
+        ap (λ w. record { waiting = w; taken = after.taken }) left ∙ ap (λ k. record { waiting = drop 1 q.waiting; taken = k }) one_more in
     let raised : number ≡ m.version + 1 = omega (arith, next, h.table.version, applied_le past) in
     record {
       given = record { right = ap (body.Applied port) (one_more ∙ ap (λ k. k + 1) taken) ∙ sym plain; allowed = refl };

@@ -1,5 +1,5 @@
 -- A batch that was read is queued, or refused.
-use Rattle.std.proofs.Common.{◌≡◌, ℕ, ◌+◌, ◌<◌, ◌^◌, ◌-◌, min, eqb, ltb, leb, Bool, true, false, List, [], ◌∷◌, ◌++◌, length, Option, Some, refl, sym, ap, ◌∙◌, arith}
+use Rattle.std.proofs.Common.{◌≡◌, ℕ, ◌+◌, ◌<◌, ◌^◌, eqb, ltb, leb, Bool, true, false, List, [], ◌∷◌, ◌++◌, length, Option, Some, refl, sym, ap, ◌∙◌, arith}
 use Rattle.std.specs.Prelude.{is_none}
 use Rattle.std.proofs.lemmas.Bool.{lt-ltb}
 use Rattle.std.specs.Vec.{with_item}
@@ -64,14 +64,15 @@ pub queued_does : (m : Machine) (past : List Answered) (port : ℕ) (b : Batch) 
     → ltb 65536 (length (store_in m.table).pairs + rows_in_queues m.queues.items + rows_in b) ≡ false
     → batch_asked (ports.schema past) request ≡ Some b
     → after ≡ record q { waiting = q.waiting ++ b ∷ [] }
-    → seq ≡ min (min (q.taken + length q.waiting) (2 ^ 64 - 1) + 1) (2 ^ 64 - 1)
+    → (q.taken + length q.waiting + 1 < 2 ^ 64 → seq ≡ q.taken + length q.waiting + 1)
     → DoesBy (queue_answer past port b) past session request (body.Queued port seq) (record m { queues = with_item m.queues port after })
 queued_does m past port b q after seq session request h few lt at free room asked put next =
     let open_port : leb 64 (length (ports.waiting past port)) ≡ false = full_is m past port q h at ∙ free in
     let fits : is_overfull past (Some b) ≡ false = overfull_is m past b h ∙ room in
     let granted : queue_answer past port b ≡ body.Queued port (length (ports.accepted past port) + 1) = rw (open_port, fits) refl in
-    let seq_is : seq ≡ length (ports.accepted past port) + 1 =
-    omega (arith, next, next_is m.queues.items past port q h.queues at, accepted_le past port) in
+    let all : q.taken + length q.waiting ≡ length (ports.accepted past port) = next_is m.queues.items past port q h.queues at in
+    let small : q.taken + length q.waiting + 1 < 2 ^ 64 = omega (arith, all, accepted_le past port) in
+    let seq_is : seq ≡ length (ports.accepted past port) + 1 = next small ∙ ap (λ k. k + 1) all in
     record {
       given = record { right = ap (body.Queued port) seq_is ∙ sym granted; allowed = refl };
       holds = λ n version. record {

@@ -1,4 +1,4 @@
-ghost use Rattle.std.specs.Prelude.{◌≡◌, ◌+◌, ◌-◌, ◌<◌, ◌^◌, nat_le, [], ◌∷◌, ◌++◌, length, drop, slice_get, min, OnOk, OnErr};
+ghost use Rattle.std.specs.Prelude.{◌≡◌, ◌+◌, ◌-◌, ◌<◌, ◌^◌, nat_le, [], ◌∷◌, ◌++◌, length, drop, slice_get, OnOk, OnErr};
 ghost use Rattle.std.specs.Option.{option_copied};
 ghost use Rattle.hub_core.specs.Queues.{no_queue, rows_in_queue, rows_in_queues};
 
@@ -35,7 +35,8 @@ impl Queue {
 
     /// The number of the next batch that the port accepts, counted from 1.
     pub fn next_seq(&self) -> u64
-        ensures { result ≡ min (min (self.now.taken + length self.now.waiting) (2 ^ 64 - 1) + 1) (2 ^ 64 - 1) }
+        ensures { self.now.taken + length self.now.waiting + 1 < 2 ^ 64
+            → result ≡ self.now.taken + length self.now.waiting + 1 }
     {
         self.taken
             .saturating_add(self.waiting.len() as u64)
@@ -60,7 +61,8 @@ impl Queue {
     /// Takes the oldest batch off.
     pub fn drop_front(&mut self, alloc: Global)
         requires { 0 < length self.old.waiting }
-        ensures { self.new ≡ record { waiting = drop 1 self.old.waiting; taken = min (self.old.taken + 1) (2 ^ 64 - 1) } }
+        ensures waiting { self.new.waiting ≡ drop 1 self.old.waiting }
+        ensures taken { self.old.taken + 1 < 2 ^ 64 → self.new.taken ≡ self.old.taken + 1 }
     {
         let waiting = mem::replace(&mut self.waiting, Listed::new(alloc));
         let mut batches = waiting.into_vec();

@@ -15,12 +15,9 @@ const MAX_GIVEN: u64 = 1 << 62;
 pub struct Table {
     schema: Schema,
     rows: PlainTable,
-    /// How many rows the applied batches had.
-    given: u64,
 }
 
 impl Model for Table {
-    ghost use Rattle.std.specs.Prelude.{◌≤◌};
     ghost use Rattle.row_batch.specs.Tables.{IsCounted};
     ghost use Rattle.hub_core.specs.Tables.{TableData};
 
@@ -28,7 +25,7 @@ impl Model for Table {
 
     ghost view = { λ t. record { schema = t.schema; store = t.rows } };
 
-    ghost invariant = { λ t. IsCounted t.schema.keeping t.rows × (t.rows.number ≤ t.given) };
+    ghost invariant = { λ t. IsCounted t.schema.keeping t.rows };
 }
 
 impl Table {
@@ -37,11 +34,8 @@ impl Table {
         ensures schema { result.schema ≡ schema }
         ensures empty { result.store ≡ empty_store }
     {
-        Table {
-            schema,
-            rows: PlainTable::make(alloc),
-            given: 0,
-        }
+        let rows = PlainTable::make(alloc);
+        Table { schema, rows }
     }
 
     pub fn schema(&self) -> &Schema
@@ -64,12 +58,10 @@ impl Table {
         ensures ok { OnOk result (self.new.store ≡ put_batch self.old.schema self.old.store batch.now) }
         ensures err { OnErr result (self.new.store ≡ self.old.store) }
     {
-        let given = self.given.saturating_add(batch.rows() as u64);
+        let given = self.rows.number().saturating_add(batch.rows() as u64);
         if given > MAX_GIVEN {
             return Err(Memory);
         }
-        self.rows.put(alloc, &self.schema, batch)?;
-        self.given = given;
-        Ok(())
+        self.rows.put(alloc, &self.schema, batch)
     }
 }

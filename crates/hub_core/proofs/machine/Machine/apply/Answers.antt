@@ -13,4 +13,4 @@ returns c = λ past h few session.
     (sym c.in-Some-front.ensures)
     c.put.ensures.schema
     (on_ok _ c.put.result (sym c.is_err.ensures.value ∙ c.if-is_err.false) c.put.ensures.ok)
-    c.drop_front.ensures c.saturating_add-self.ensures
+    c.drop_front.ensures.waiting c.drop_front.ensures.taken c.saturating_add-self.ensures
