@@ -134,3 +134,6 @@ fn is_in_range(number: i64) -> bool
 {
     -MAX_INTEGER <= number && number <= MAX_INTEGER
 }
+
+#[cfg(test)]
+mod tests;

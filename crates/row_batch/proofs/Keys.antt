@@ -133,10 +133,13 @@ patches_keep keeping width s [] h = h
 patches_keep keeping width s (patch ∷ patches) h =
     patches_keep keeping width (put_patch keeping width s patch) patches (patch_keeps keeping width s patch h)
 
+pub empty_is_counted : (keeping : Keeping) → IsCounted keeping empty_store
+empty_is_counted (Indexed column) = tt
+empty_is_counted (Limited slots) = tt
+empty_is_counted Free = All-nil (IsNumberBelow 0)
+
 empty_keeps : (keeping : Keeping) → KeepsKeys keeping empty_store
-empty_keeps (Indexed column) = (tt, tt)
-empty_keeps (Limited slots) = (tt, tt)
-empty_keeps Free = (tt, All-nil (IsNumberBelow 0))
+empty_keeps keeping = (tt, empty_is_counted keeping)
 
 removed_keeps : (keeping : Keeping) (drops : Cell → Bool) (s : Store) → KeepsKeys keeping s → KeepsKeys keeping (record s { pairs = without drops s.pairs })
 removed_keeps (Indexed column) drops s h = (distinct_without drops s.pairs h.0, tt)

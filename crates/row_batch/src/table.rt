@@ -1,5 +1,6 @@
 ghost use Rattle.std.specs.Prelude.{◌≡◌, ◌+◌, ◌^◌, ◌<◌, ◌≤◌, length, IfOk, OnOk, OnErr};
 ghost use Rattle.plain_data.specs.Distinct.{AreDistinct};
+ghost use Rattle.cell_core.specs.declared.schema.Keeping.{Keeping};
 ghost use Rattle.row_batch.specs.Batches.{empty_store, put_batch, rows_in};
 ghost use Rattle.row_batch.specs.Tables.{keys_of_rows, IsCounted};
 
@@ -32,7 +33,8 @@ impl Model for PlainTable {
 impl PlainTable {
     /// A table with no rows. It takes no memory.
     pub fn make(alloc: Global) -> PlainTable
-        ensures { result ≡ empty_store }
+        ensures empty { result ≡ empty_store }
+        ensures counted { (keeping : Keeping) → IsCounted keeping result }
     {
         PlainTable {
             pairs: Listed::new(alloc),
@@ -53,6 +55,13 @@ impl PlainTable {
         ensures { result ≡ length self.now.pairs }
     {
         self.pairs.len()
+    }
+
+    /// How many rows a table without an index has been given since it was made or cleared.
+    pub fn number(&self) -> u64
+        ensures { result ≡ self.now.number }
+    {
+        self.number
     }
 
     /// Takes a batch whole. After want of memory the table is as before.
@@ -92,3 +101,6 @@ impl PlainTable {
         }
     }
 }
+
+#[cfg(test)]
+mod tests;

@@ -1,0 +1,10 @@
+pub mod Counting
+pub mod Deeds
+pub mod Fresh
+pub mod PortChanges
+pub mod QueueDeeds
+pub mod Refusing
+pub mod Room
+pub mod Stepping
+pub mod TableChanges
+pub mod ViewChanges

@@ -1,0 +1,42 @@
+-- What a step makes of the table's schema, rows and version.
+use Rattle.std.proofs.Common.{◌≡◌, ℕ, ◌+◌, List, [], ◌∷◌, ◌++◌, length, fold, Option, Some, None, Result, Ok, unwrap_or, refl, sym, ap, ◌∙◌, arith, length-append}
+use Rattle.std.proofs.lemmas.List.Sums.{fold-append}
+use Rattle.cell_core.specs.Schemas.{SchemaData, schema_of}
+use Rattle.cell_core.specs.declared.schema.ColumnWords.{ColumnWords}
+use Rattle.row_batch.specs.Batches.{Store, empty_store, put_batch}
+use Rattle.row_batch.specs.declared.batch.Batch.{Batch}
+use Rattle.frame_types.specs.Asks.{Ask}
+use Rattle.frame_types.specs.declared.reply.Body.TheVariants as body
+use Rattle.hub_spec.specs.Answered.{Answered}
+use Rattle.hub_spec.specs.Ports.{Applied, waiting, taken, applied, with_first}
+use Rattle.hub_spec.specs.Ports as ports
+use Rattle.hub_spec.specs.Rows.{put_applied, no_schema, store}
+use Rattle.hub_core.specs.Holding.{HoldsTable, with_step}
+use Rattle.hub_core.specs.Tables.{TableData, schema_in, store_in}
+
+-- where a batch waits, the oldest one is the one that is applied
+first_of_waiting : (batches : List Batch) (batch : Batch) (rest : List Batch) (port seq : ℕ) (done : List Applied) → batches ≡ batch ∷ rest
+    → with_first batches port seq done ≡ done ++ record { port = port; seq = seq; batch = batch } ∷ []
+first_of_waiting batches batch rest port seq done e = rw e refl
+
+put_first : (schema : SchemaData) (done : List Applied) (a : Applied)
+    → fold (put_applied schema) empty_store (done ++ a ∷ []) ≡ put_batch schema (fold (put_applied schema) empty_store done) a.batch
+put_first schema done a = fold-append (put_applied schema) empty_store done (a ∷ [])
+
+pub applied_table : (table : Option TableData) (before after : TableData) (number : ℕ) (past : List Answered) (session : ℕ) (request : Ask)
+    (n version port seq : ℕ) (batch : Batch) (rest : List Batch)
+    → HoldsTable table number past → table ≡ Some before → waiting past port ≡ batch ∷ rest
+    → after.schema ≡ before.schema → after.store ≡ put_batch before.schema before.store batch
+    → HoldsTable (Some after) (number + 1) (with_step session request n version (body.Applied port seq) past)
+applied_table table before after number past session request n version port seq batch rest h is first same put =
+    let this : Applied = record { port = port; seq = taken past port + 1; batch = batch } in
+    let done : with_first (waiting past port) port (taken past port + 1) (applied past) ≡ applied past ++ this ∷ [] =
+    first_of_waiting (waiting past port) batch rest port (taken past port + 1) (applied past) first in
+    let some : ports.schema past ≡ Some before.schema = sym h.schema ∙ ap schema_in is in
+    let kept : before.store ≡ store past = sym (ap store_in is) ∙ h.kept in
+    record {
+      schema = ap Some same ∙ sym some;
+      kept = put ∙ ap (λ s. put_batch before.schema s batch) kept ∙ (rw (done, some) (sym (put_first before.schema (applied past) this)));
+      version = rw done (ap (λ v. v + 1) h.version ∙ sym (length-append (applied past) (this ∷ [])));
+      bare = λ none. absurd (let e : Some before.schema ≡ None = sym some ∙ none in cc);
+    }

@@ -1,0 +1,68 @@
+-- What a machine holds after a history.
+use Rattle.std.specs.Prelude.{◌≡◌, ℕ, ◌+◌, ◌<◌, ◌≤◌, nat_le, true, List, [], ◌∷◌, length, map, Option, Some, None, slice_index}
+use Rattle.row_batch.specs.declared.batch.Batch.{Batch}
+use Rattle.frame_types.specs.Asks.{Ask}
+use Rattle.frame_types.specs.declared.reply.Body.{Body}
+use Rattle.frame_types.specs.declared.reply.Body.TheVariants as body
+use Rattle.hub_spec.specs.Answered.{Answered}
+use Rattle.hub_spec.specs.Answers.{first_of, refusals, granted, unbuilt, is_overfull}
+use Rattle.hub_spec.specs.HeldViews as held
+use Rattle.hub_spec.specs.Histories.{choice_of, chosen, may_choose}
+use Rattle.hub_spec.specs.Ports as ports
+use Rattle.hub_spec.specs.Rows as rows
+use Rattle.hub_core.specs.KeptViews.{kept_view}
+use Rattle.hub_core.specs.Queues.{queue_at}
+use Rattle.hub_core.specs.Tables.{TableData, schema_in, store_in}
+use Rattle.hub_core.specs.declared.machine.Machine.{Machine}
+use Rattle.hub_core.specs.declared.queues.Queue.{Queue}
+use Rattle.hub_core.specs.declared.views.View.{View}
+
+pub record HoldsTable (table : Option TableData) (number : ℕ) (past : List Answered) : Type 0 where
+  pub schema : schema_in table ≡ ports.schema past
+  pub kept : store_in table ≡ rows.store past
+  pub version : number ≡ ports.version past
+  pub bare : ports.schema past ≡ None → ports.applied past ≡ []
+
+pub record HoldsPorts (queues : List Queue) (past : List Answered) : Type 0 where
+  pub count : length queues ≡ ports.ports past
+  pub waiting : (port : ℕ) → (queue_at queues port).waiting ≡ ports.waiting past port
+  pub taken : (port : ℕ) → (queue_at queues port).taken ≡ ports.taken past port
+  pub within : (port : ℕ) → ports.taken past port ≤ length (ports.accepted past port)
+
+pub record HoldsViews (kept : List View) (counts : List ℕ) (past : List Answered) : Type 0 where
+  pub views : kept ≡ map kept_view (held.views past)
+  pub sessions : length counts ≡ 66
+  pub opened : (session : ℕ) → session < 66 → slice_index counts session ≡ held.opened past session
+
+pub record Holds (m : Machine) (past : List Answered) : Type 0 where
+  pub table : HoldsTable m.table m.version past
+  pub queues : HoldsPorts m.queues.items past
+  pub views : HoldsViews m.views.items m.opened past
+
+-- the answer where the history isn't full and memory is plenty
+abbrev pub plain_in : List Answered → ℕ → Ask → Body
+plain_in past session request = first_of (refusals past session request) (granted past session request)
+
+-- the rest of the answer where a batch that was read is to be queued on a port that stands
+abbrev pub queue_answer : List Answered → ℕ → Batch → Body
+queue_answer past port batch =
+    first_of
+    (unbuilt (nat_le 64 (length (ports.waiting past port))) ∷ unbuilt (is_overfull past (Some batch)) ∷ [])
+    (body.Queued port (length (ports.accepted past port) + 1))
+
+-- the answer is the plain one under a choice that it names and that is allowed
+pub record IsGiven (past : List Answered) (request : Ask) (plain answer : Body) : Type 0 where
+  pub right : answer ≡ chosen (choice_of answer) plain
+  pub allowed : may_choose past request (choice_of answer) plain ≡ true
+
+abbrev pub with_step : ℕ → Ask → ℕ → ℕ → Body → List Answered → List Answered
+with_step session request n version answer past =
+    record { session = session; request = request; reply = record { n = n; version = version; body = answer } } ∷ past
+
+-- after this history the answer is right, and the machine has what follows
+pub record DoesBy (plain : Body) (past : List Answered) (session : ℕ) (request : Ask) (answer : Body) (after : Machine) : Type 0 where
+  pub given : IsGiven past request plain answer
+  pub holds : (n version : ℕ) → Holds after (with_step session request n version answer past)
+
+abbrev pub Does : List Answered → ℕ → Ask → Body → Machine → Type 0
+Does past session request answer after = DoesBy (plain_in past session request) past session request answer after

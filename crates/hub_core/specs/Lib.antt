@@ -1,0 +1,6 @@
+pub mod Callers
+pub mod Holding
+pub mod KeptViews
+pub mod Queues
+pub mod Standing
+pub mod Tables
