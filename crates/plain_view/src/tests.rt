@@ -1,5 +1,7 @@
 ghost use Rattle.std.specs.Prelude.{◌≡◌, IsTrue, map};
+ghost use Rattle.std.specs.List.{list_any};
 ghost use Rattle.plain_data.specs.Distinct.{AreDistinct};
+ghost use Rattle.cell_core.specs.Cells.{same_cell};
 
 use crate::{show, show_window};
 use cell_core::{Cell, ColumnWords, Listed, Memory, Schema, Text};
@@ -31,15 +33,17 @@ fn pair(key: i64, cells: Vec<Cell>) -> Pair {
 fn are_distinct(pairs: &[Pair]) -> bool
     ensures { IsTrue result → AreDistinct (map (λ p. p.key) pairs.now) }
 {
-    for i in 0..pairs.len() {
-        if stands_in(&pairs[i].key, &pairs[i + 1..]) {
+    for (i, pair) in pairs.iter().enumerate() {
+        if stands_in(&pair.key, &pairs[i + 1..]) {
             return false;
         }
     }
     true
 }
 
-fn stands_in(key: &Cell, pairs: &[Pair]) -> bool {
+fn stands_in(key: &Cell, pairs: &[Pair]) -> bool
+    ensures { result ≡ list_any (λ p. same_cell p.key key.now) pairs.now }
+{
     pairs.iter().any(|pair| pair.key.order(key).is_eq())
 }
 
@@ -105,14 +109,17 @@ fn a_thousand_rows_ascend(rt: HostRuntime) -> Result<(), Fail> {
     let alloc = rt.alloc();
     let schema = integers(alloc, &["v"])?;
     let mut pairs = Vec::new(alloc);
-    for i in 0..1000i64 {
-        pairs.push(pair(i * 617 % 1000 - 500, vec![in alloc; Cell::Int(i)]?))?;
+    for i in 0..1000u32 {
+        let key = i64::from(i * 617 % 1000).wrapping_sub(500);
+        pairs.push(pair(key, vec![in alloc; Cell::Int(key)]?))?;
     }
     assert!(rt; are_distinct(&pairs));
     let shown = show(alloc, &schema, &pairs)?;
     assert_eq!(rt; shown.rows.as_slice().len(), 1000);
-    for (place, row) in shown.rows.as_slice().iter().enumerate() {
-        assert!(rt; row.key == ViewKey::Row(Cell::Int(place as i64 - 500)));
+    let mut want = -500i64;
+    for row in shown.rows.as_slice() {
+        assert!(rt; row.key == ViewKey::Row(Cell::Int(want)));
+        want = want.wrapping_add(1);
     }
     Ok(())
 }
