@@ -6,15 +6,15 @@
 #![tactic(auto)]
 
 mod ends;
+#[cfg(test)]
+mod tests;
 mod top;
-
 
 use ends::{Input, Output};
 use io_ends::{Sink, Source};
 use std::alloc::Global;
-use std::env;
-use std::io;
 use std::process::ExitCode;
+use std::{env, io};
 use top::{Status, pv_main};
 
 /// The words after the program's name, where they are text.
