@@ -1,4 +1,4 @@
-ghost use Rattle.std.specs.Prelude.{◌≡◌, ◌<◌, ◌≤◌, [], ◌∷◌, length, position, IfOk, IfErr};
+ghost use Rattle.std.specs.Prelude.{◌≡◌, ◌<◌, ◌≤◌, [], ◌∷◌, length, position, slice_get, option_map, Some, IfOk, IfErr};
 ghost use Rattle.std.specs.Str.{bytes_eq};
 ghost use Rattle.plain_data.specs.Faults.{first_fault};
 ghost use Rattle.cell_core.specs.Schemas.{type_named, type_name, column_faults, keeping_faults, schema_faults, keeping_of, typed_columns, outcome_of, schema_of, is_named, RefusesSchema, IsKeeping};
@@ -156,6 +156,22 @@ impl Schema {
         ensures few { result ≤ MAX_COLUMNS }
     {
         self.columns.len()
+    }
+
+    /// The name of column `i`.
+    pub fn name(&self, i: usize) -> &Text
+        requires { i < length self.now.columns }
+        ensures { option_map (λ c. c.name) (slice_get self.now.columns i) ≡ Some result.now }
+    {
+        &self.columns.as_slice()[i].name
+    }
+
+    /// The type of column `i`.
+    pub fn type_of(&self, i: usize) -> CellType
+        requires { i < length self.now.columns }
+        ensures { option_map (λ c. c.kind) (slice_get self.now.columns i) ≡ Some result }
+    {
+        self.columns.as_slice()[i].kind
     }
 
     pub fn columns(&self) -> &[Column]

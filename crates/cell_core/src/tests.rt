@@ -1,5 +1,5 @@
 use crate::{
-    Cell, ColumnWords, Columns, Keeping, Listed, Memory, Numbers, Schema, SchemaCause,
+    Cell, CellType, ColumnWords, Columns, Keeping, Listed, Memory, Numbers, Schema, SchemaCause,
     SchemaRefused, Text,
 };
 use std::alloc::Global;
@@ -62,8 +62,27 @@ fn schemas_are_made_or_refused_by_their_first_cause(rt: HostRuntime) {
         keeping(alloc, &[("v", "date"), ("v", "date")], None, None),
         twice
     );
+    let both = bad(SchemaCause::IndexAndLimit, Numbers::Zero);
+    assert_eq!(rt; keeping(alloc, &two, Some("x"), Some(0)), both);
+    let index = bad(SchemaCause::Index, Numbers::Zero);
+    assert_eq!(rt; keeping(alloc, &two, Some("x"), None), index);
     let limit = bad(SchemaCause::Limit, Numbers::Zero);
     assert_eq!(rt; keeping(alloc, &two, None, Some(65537)), limit);
+}
+
+#[test]
+fn columns_are_told_by_number_and_name(rt: HostRuntime) -> Result<(), Fail> {
+    let alloc = rt.alloc();
+    let words = columns(alloc, &[("k", "integer"), ("when", "datetime")])?;
+    let schema = Schema::make(alloc, words, None, None)
+        .ok()
+        .ok_or("refused")?;
+    let when = Text::from_str(alloc, "when")?;
+    assert_eq!(rt; schema.find(&when), Some(1));
+    assert_eq!(rt; schema.width(), 2);
+    assert!(rt; schema.name(1) == &when);
+    assert_eq!(rt; schema.type_of(1), CellType::Moment);
+    Ok(())
 }
 
 #[test]

@@ -1,0 +1,95 @@
+-- What the status says, from how the script ended.
+use Rattle.std.proofs.Common.{◌≡◌, ℕ, ◌+◌, ◌^◌, ◌<◌, ◌≤◌, List, [], ◌++◌, length, take, map, Option, inl, inr, refl, sym, ap, arith}
+use Rattle.std.proofs.KnownBytes.{Consumes-nil, Appends-nil}
+use Rattle.std.specs.Io.KnownBytes.{IsAtEnd}
+use Rattle.io_ends.specs.Lines.{lines, ended_lines}
+use Rattle.session_core.specs.Answers.{Answers, PartlyAnswers}
+use Rattle.session_core.specs.Outcome.{Moved, Outcome}
+use Rattle.session_core.specs.declared.script.ScriptEnd.{ScriptEnd}
+use Rattle.session_core.specs.declared.script.ScriptEnd.TheVariants.{Done, Memory, TooLong, ReadFault, WriteFault}
+use Rattle.pv_program.specs.Statuses.{StatusSays, code_of}
+
+
+pub status_says : (end : ScriptEnd) (left : Option (List ℕ)) (given out : List ℕ) → Outcome end left given out → StatusSays (code_of end) left given out
+status_says (Done count) left given out h = record {
+  answered = λ e. (h.0, h.1);
+  partly = λ e. elim e [ inl i ↦ absurd (omega arith) | inr i ↦ absurd (omega arith) ];
+  other_words = λ e. absurd (omega arith);
+  too_many = (λ e. omega arith, λ more. let within = h.3 in omega arith);
+  up_to_limit = λ e. absurd (omega arith);
+  read = λ e. absurd (omega arith);
+}
+status_says Memory left given out h = record {
+  answered = λ e. absurd (omega arith);
+  partly = λ e. h.0;
+  other_words = λ e. absurd (omega arith);
+  too_many = (λ e. omega arith, λ more. let within = h.1 in omega arith);
+  up_to_limit = λ e. absurd (omega arith);
+  read = λ e. absurd (omega arith);
+}
+status_says TooLong left given out h = record {
+  answered = λ e. absurd (omega arith);
+  partly = λ e. elim e [ inl i ↦ absurd (omega arith) | inr i ↦ absurd (omega arith) ];
+  other_words = λ e. absurd (omega arith);
+  too_many = (λ e. let size = h.1 in omega arith, λ more. refl);
+  up_to_limit = λ e. h.0;
+  read = λ e. absurd (omega arith);
+}
+status_says ReadFault left given out h = record {
+  answered = λ e. absurd (omega arith);
+  partly = λ e. elim e [ inl i ↦ absurd (omega arith) | inr i ↦ absurd (omega arith) ];
+  other_words = λ e. absurd (omega arith);
+  too_many = (λ e. omega arith, λ more. let within = h.1 in omega arith);
+  up_to_limit = λ e. absurd (omega arith);
+  read = λ e. h.0;
+}
+status_says WriteFault left given out h = record {
+  answered = λ e. absurd (omega arith);
+  partly = λ e. h.0;
+  other_words = λ e. absurd (omega arith);
+  too_many = (λ e. omega arith, λ more. let within = h.1 in omega arith);
+  up_to_limit = λ e. absurd (omega arith);
+  read = λ e. absurd (omega arith);
+}
+
+-- nothing was read and nothing written
+pub nothing_moved : (left written : Option (List ℕ)) (P : List ℕ → List ℕ → Type 0) → P [] [] → Moved left left written written P
+nothing_moved left written P h = ([], [], Consumes-nil left, Appends-nil written, h)
+
+pub moved : (left0 left1 written0 written1 : Option (List ℕ)) (P Q : List ℕ → List ℕ → Type 0) → ((given out : List ℕ) → P given out → Q given out)
+    → Moved left0 left1 written0 written1 P → Moved left0 left1 written0 written1 Q
+moved left0 left1 written0 written1 P Q f m = (m.0, m.1, m.2, m.3, f m.0 m.1 m.4)
+
+pub wrong_words : (left : Option (List ℕ)) → StatusSays 2 left [] []
+wrong_words left = record {
+  answered = λ e. absurd (omega arith);
+  partly = λ e. elim e [ inl i ↦ absurd (omega arith) | inr i ↦ absurd (omega arith) ];
+  other_words = λ e. (refl, refl);
+  too_many = (λ e. omega arith, λ more. omega arith);
+  up_to_limit = λ e. absurd (omega arith);
+  read = λ e. absurd (omega arith);
+}
+
+-- no line is answered and none is there
+pub none_answered : PartlyAnswers (lines []) []
+none_answered = record {
+  done = [];
+  others = [];
+  replies = [];
+  after = [];
+  part = [];
+  lines_are = refl;
+  written = refl;
+  ran = refl;
+  next = refl;
+}
+
+pub without_memory : (left : Option (List ℕ)) → StatusSays 1 left [] []
+without_memory left = status_says Memory left [] [] (none_answered, omega arith)
+
+pub never_two : (end : ScriptEnd) → code_of end ≡ 2 → ⊥
+never_two (Done count) e = omega arith
+never_two Memory e = omega arith
+never_two TooLong e = omega arith
+never_two ReadFault e = omega arith
+never_two WriteFault e = omega arith
