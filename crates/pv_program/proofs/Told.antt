@@ -9,7 +9,6 @@ use Rattle.session_core.specs.declared.script.ScriptEnd.{ScriptEnd}
 use Rattle.session_core.specs.declared.script.ScriptEnd.TheVariants.{Done, Memory, TooLong, ReadFault, WriteFault}
 use Rattle.pv_program.specs.Statuses.{StatusSays, code_of}
 
-
 pub status_says : (end : ScriptEnd) (left : Option (List ℕ)) (given out : List ℕ) → Outcome end left given out → StatusSays (code_of end) left given out
 status_says (Done count) left given out h = record {
   answered = λ e. (h.0, h.1);

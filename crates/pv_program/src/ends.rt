@@ -1,4 +1,5 @@
-ghost use Rattle.std.specs.Prelude.{None, ℕ, List, Option};
+ghost use Rattle.std.specs.Prelude.{◌≡◌, ◌≤◌, None};
+ghost use Rattle.io_ends.specs.Causes.{one_more};
 
 use io_ends::{Sink, SinkFault, Source, SourceFailed};
 use std::io::{ErrorKind, Read, Write};
@@ -45,7 +46,10 @@ impl<W> Output<W> {
         Output { writer, faults: 0 }
     }
 
-    fn failed(&mut self) -> SinkFault {
+    fn failed(&mut self) -> SinkFault
+        ensures counted { self.new.faults ≡ one_more self.old.faults }
+        ensures later { self.old.faults ≤ self.new.faults }
+    {
         self.faults = self.faults.saturating_add(1);
         SinkFault::Failed
     }

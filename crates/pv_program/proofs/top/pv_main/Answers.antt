@@ -1,0 +1,23 @@
+use Rattle.std.proofs.Common.{◌≡◌, ℕ, sym, subst}
+use Rattle.session_core.specs.Outcome.{Outcome}
+use Rattle.pv_program.specs.Statuses.{StatusSays}
+use Rattle.pv_program.proofs.Told.{nothing_moved, wrong_words, without_memory, moved, status_says}
+use Rattle.pv_program.proofs.top.pv_main.Goals as goal
+
+pub returns-then-not-is_script-clause-ran : goal.returns-then-not-is_script-clause-ran
+returns-then-not-is_script-clause-ran g c =
+    let left = g.S.Source.left c.args.source.now in
+    nothing_moved left (g.K.Sink.written c.args.sink.now) (λ given out. StatusSays 2 left given out) (wrong_words left)
+
+pub returns-in-Ok-clause-ran : goal.returns-in-Ok-clause-ran
+returns-in-Ok-clause-ran g c =
+    let left = g.S.Source.left c.run_script.new.source in
+    moved (g.S.Source.left c.args.source.now) left (g.K.Sink.written c.args.sink.now) (g.K.Sink.written c.run_script.new.sink)
+    (Outcome c.run_script.result left) (λ given out. StatusSays c.status_of.result.code left given out)
+    (λ given out h. let P : ℕ → Type 0 = λ n. StatusSays n left given out in subst P (sym c.status_of.ensures) (status_says c.run_script.result left given out h))
+    c.run_script.ensures.ran
+
+pub returns-in-Err-clause-ran : goal.returns-in-Err-clause-ran
+returns-in-Err-clause-ran g c =
+    let left = g.S.Source.left c.args.source.now in
+    nothing_moved left (g.K.Sink.written c.args.sink.now) (λ given out. StatusSays 1 left given out) (without_memory left)
