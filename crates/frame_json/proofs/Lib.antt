@@ -1,5 +1,6 @@
 mod Texts
 mod Members
 mod Columns
+mod Dates
 mod Floats
 mod Pairs
