@@ -17,11 +17,10 @@ use Rattle.view_types.specs.declared.key.ViewKey.{ViewKey}
 use Rattle.view_types.specs.declared.key.ViewKey.TheVariants as key
 use Rattle.view_types.specs.declared.shown.HeaderColumn.{HeaderColumn}
 use Rattle.view_types.specs.declared.shown.ShownRow.{ShownRow}
-use Rattle.frame_types.specs.declared.reply.Refusal.{Refusal}
 use Rattle.frame_types.specs.declared.reply.Body.{Body}
 use Rattle.frame_types.specs.declared.reply.Body.TheVariants as body
 use Rattle.frame_types.specs.declared.reply.Reply.{Reply}
-use Rattle.frame_json.specs.Replies.{integer, pair, triple, tagged, is_exact, whole_data, fraction_data, has_date, day_data, date_data, moment_data, value_data, part_data, column_data, header_data, with_cells, cells_data, keyed_data, row_data, rows_data, lost_view, lost_data, at_items, losing_reply, opened_reply, rows_reply, refused_reply, body_data, reply_data}
+use Rattle.frame_json.specs.Replies.{integer, pair, triple, tagged, is_exact, whole_data, has_date, day_data, date_data, moment_data, value_data, part_data, column_data, header_data, with_cells, cells_data, keyed_data, row_data, rows_data, lost_view, lost_data, at_items, body_data, reply_data}
 
 abbrev Free : Data → Type 0
 Free d = has_float d ≡ false
