@@ -1,4 +1,4 @@
-ghost use Rattle.std.specs.Prelude.{◌≡◌, IfOk};
+ghost use Rattle.std.specs.Prelude.{◌≡◌, false, IfOk};
 
 use crate::{raw_of, read_request, write_reply};
 use cell_core::{Cell, Fraction, Listed, Memory, Numbers, Raw, Text, Value};
@@ -194,7 +194,8 @@ fn header(alloc: Global) -> Result<Header, Memory> {
 }
 
 fn whole_row(alloc: Global, key: i64, value: i64) -> Result<ShownRow, Memory>
-    ensures { IfOk result (λ row. row.key ≡ ViewKey.Row (Cell.Int key)) }
+    ensures key { IfOk result (λ row. row.key ≡ ViewKey.Row (Cell.Int key)) }
+    ensures mark { IfOk result (λ row. row.mark ≡ false) }
 {
     let mut cells = ShownCells::new(alloc);
     cells.put(Text::from_str(alloc, "k")?, Value::Whole(key as i128))?;
