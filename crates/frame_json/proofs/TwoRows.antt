@@ -1,5 +1,5 @@
 -- Two rows of a flat view with the keys 1 and 2 are shown together.
-use Rattle.std.proofs.Common.{◌≡◌, ◌≢◌, ℕ, ◌<◌, lit<, Bool, false, ℤ, pos, [], ◌∷◌, All, sym, subst, arith}
+use Rattle.std.proofs.Common.{◌≡◌, ◌≢◌, ℕ, ◌<◌, lit<, Bool, false, ℤ, pos, [], ◌∷◌, sym, subst, arith}
 use Rattle.std.proofs.lemmas.List.Elements.{All-nil, All-cons}
 use Rattle.cell_core.specs.declared.cell.Cell.TheVariants.{Int}
 use Rattle.view_types.specs.Rows.{IsMarked, AreShownRows}
