@@ -6,6 +6,7 @@ use Rattle.std.specs.Ordering.{match_ordering}
 use Rattle.serde_json.specs.Data.{Data, string, Members, no_members, member, put}
 use Rattle.serde_json.specs.View.{items_of}
 use Rattle.serde_json.specs.Written.{has_float, items_have_float, members_have_float}
+use Rattle.cal_units.specs.DateText.{date_text}
 use Rattle.value_core.specs.declared.value.Value.{Value}
 use Rattle.value_core.specs.declared.value.Value.TheVariants as value
 use Rattle.cell_core.specs.declared.cell.Cell.{Cell}
@@ -16,11 +17,10 @@ use Rattle.view_types.specs.declared.key.ViewKey.{ViewKey}
 use Rattle.view_types.specs.declared.key.ViewKey.TheVariants as key
 use Rattle.view_types.specs.declared.shown.HeaderColumn.{HeaderColumn}
 use Rattle.view_types.specs.declared.shown.ShownRow.{ShownRow}
-use Rattle.frame_types.specs.declared.reply.Refusal.{Refusal}
 use Rattle.frame_types.specs.declared.reply.Body.{Body}
 use Rattle.frame_types.specs.declared.reply.Body.TheVariants as body
 use Rattle.frame_types.specs.declared.reply.Reply.{Reply}
-use Rattle.frame_json.specs.Replies.{integer, pair, triple, tagged, is_exact, whole_data, fraction_data, date_data, moment_data, value_data, part_data, column_data, header_data, with_cells, cells_data, keyed_data, row_data, rows_data, lost_view, lost_data, at_items, losing_reply, opened_reply, rows_reply, refused_reply, body_data, reply_data}
+use Rattle.frame_json.specs.Replies.{integer, pair, triple, tagged, is_exact, whole_data, has_date, day_data, date_data, moment_data, value_data, part_data, column_data, header_data, with_cells, cells_data, keyed_data, row_data, rows_data, lost_view, lost_data, at_items, body_data, reply_data}
 
 abbrev Free : Data → Type 0
 Free d = has_float d ≡ false
@@ -51,8 +51,12 @@ whole_by false z = refl
 whole-free : (z : ℤ) → Free (whole_data z)
 whole-free z = whole_by (is_exact z) z
 
+day_by : (b : Bool) (day : ℤ) → Free (cond b (string (date_text day)) (integer day))
+day_by true day = refl
+day_by false day = integer-free day
+
 date-free : (day : ℤ) → Free (date_data day)
-date-free day = pair-free (string (codes "d")) (integer day) refl (integer-free day)
+date-free day = pair-free (string (codes "d")) (day_data day) refl (day_by (has_date day) day)
 
 moment-free : (ms : ℤ) → Free (moment_data ms)
 moment-free ms = pair-free (string (codes "t")) (integer ms) refl (integer-free ms)

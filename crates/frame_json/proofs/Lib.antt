@@ -1,5 +1,7 @@
 mod Texts
+mod TwoRows
 mod Members
 mod Columns
+mod Dates
 mod Floats
 mod Pairs

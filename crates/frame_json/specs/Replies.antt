@@ -1,10 +1,11 @@
 -- The text of a reply: the compact JSON of an object whose members stand in byte order of their names.
-use Rattle.std.specs.Prelude.{ℕ, ◌^◌, ◌-◌, ℤ, pos, negsuc, List, [], ◌∷◌, codes, map, fold, nat_lt, if◌then◌else◌, Bool}
+use Rattle.std.specs.Prelude.{ℕ, ◌^◌, ◌-◌, ℤ, pos, negsuc, List, codes, map, fold, nat_lt, if◌then◌else◌, Bool, neg_ℤ, int_le, ◌&&◌}
 use Rattle.std.specs.Fmt.{signed_decimal}
-use Rattle.serde_json.specs.Data.{Num, unsigned, negative, Data, null, boolean, number, string, array, object, Items, no_items, item, Members, no_members, member, put}
+use Rattle.serde_json.specs.Data.{unsigned, Data, null, boolean, number, string, array, object, Items, no_items, item, Members, no_members, member, put}
 use Rattle.serde_json.specs.Find.{of_integer}
 use Rattle.serde_json.specs.View.{items_of}
 use Rattle.serde_json.specs.Written.{compact_text}
+use Rattle.cal_units.specs.DateText.{date_text}
 use Rattle.value_core.specs.declared.fraction.Fraction.{Fraction}
 use Rattle.value_core.specs.declared.value.Value.{Value}
 use Rattle.value_core.specs.declared.value.Value.TheVariants as value
@@ -53,8 +54,16 @@ whole_data z = if is_exact z then integer z else tagged (codes "i") (string (sig
 abbrev pub fraction_data : Fraction → Data
 fraction_data f = pair (whole_data f.n) (whole_data f.d)
 
+-- from 0001-01-01 to 9999-12-31
+abbrev pub has_date : ℤ → Bool
+has_date day = int_le (neg_ℤ (pos 719162)) day && int_le day (pos 2932896)
+
+-- `YYYY-MM-DD`; a day without such a text, which no table holds, is written as its number
+abbrev pub day_data : ℤ → Data
+day_data day = if has_date day then string (date_text day) else integer day
+
 abbrev pub date_data : ℤ → Data
-date_data day = tagged (codes "d") (integer day)
+date_data day = tagged (codes "d") (day_data day)
 
 abbrev pub moment_data : ℤ → Data
 moment_data ms = tagged (codes "t") (integer ms)

@@ -1,8 +1,11 @@
 ghost use Rattle.std.specs.Prelude.{◌≡◌, [], IfOk, map};
 ghost use Rattle.serde_json.specs.Data.{no_members, string};
 ghost use Rattle.serde_json.specs.View.{view, members_view};
-ghost use Rattle.frame_json.specs.Replies.{pair as pair_data, triple as triple_data, tagged as tagged_data, whole_data, fraction_data, date_data, moment_data, value_data, part_data, row_key as row_key_data, group_key as group_key_data, column_data, header_data, with_cells, cells_data, row_data, rows_data};
+ghost use Rattle.cal_units.specs.Calendar.{IsDay};
+ghost use Rattle.cal_units.specs.DateText.{date_text};
+ghost use Rattle.frame_json.specs.Replies.{pair as pair_data, triple as triple_data, tagged as tagged_data, whole_data, fraction_data, day_data, date_data, moment_data, value_data, part_data, row_key as row_key_data, group_key as group_key_data, column_data, header_data, with_cells, cells_data, row_data, rows_data};
 
+use cal_units::{FIRST_DAY, LAST_DAY, write_date};
 use cell_core::{Cell, Fraction, Memory, Value as ShownValue};
 use serde_json::{Map, Value, json, put};
 use std::alloc::Global;
@@ -54,10 +57,31 @@ fn fraction(alloc: Global, fraction: &Fraction) -> Result<Value, Memory>
     pair(alloc, numerator, denominator)
 }
 
+fn date_words(alloc: Global, day: i32) -> Result<Value, Memory>
+    requires { IsDay day }
+    ensures { IfOk result (λ v. view v ≡ string (date_text day)) }
+{
+    let digits = write_date(day);
+    match str::from_utf8(&digits) {
+        Ok(text) => words(alloc, text),
+        Err(_) => unreachable!(),
+    }
+}
+
+/// A date, or the number of a day that no table holds.
+fn day_value(alloc: Global, day: i32) -> Result<Value, Memory>
+    ensures { IfOk result (λ v. view v ≡ day_data day) }
+{
+    if FIRST_DAY <= day && day <= LAST_DAY {
+        return date_words(alloc, day);
+    }
+    Ok(Value::from(day as i64))
+}
+
 fn date(alloc: Global, day: i32) -> Result<Value, Memory>
     ensures { IfOk result (λ v. view v ≡ date_data day) }
 {
-    tagged(alloc, "d", Value::from(day as i64))
+    tagged(alloc, "d", day_value(alloc, day)?)
 }
 
 fn moment(alloc: Global, time: i64) -> Result<Value, Memory>

@@ -1,7 +1,7 @@
-ghost use Rattle.std.specs.Prelude.{◌≡◌, IfOk};
+ghost use Rattle.std.specs.Prelude.{◌≡◌, false, IfOk};
 
 use crate::{raw_of, read_request, write_reply};
-use cell_core::{Cell, Listed, Memory, Numbers, Raw, Text, Value};
+use cell_core::{Cell, Fraction, Listed, Memory, Numbers, Raw, Text, Value};
 use frame_types::{Body, Cause, FrameCause, Refusal, Reply, Request};
 use std::alloc::Global;
 use std::test::Fail;
@@ -194,7 +194,8 @@ fn header(alloc: Global) -> Result<Header, Memory> {
 }
 
 fn whole_row(alloc: Global, key: i64, value: i64) -> Result<ShownRow, Memory>
-    ensures { IfOk result (λ row. row.key ≡ ViewKey.Row (Cell.Int key)) }
+    ensures key { IfOk result (λ row. row.key ≡ ViewKey.Row (Cell.Int key)) }
+    ensures mark { IfOk result (λ row. row.mark ≡ false) }
 {
     let mut cells = ShownCells::new(alloc);
     cells.put(Text::from_str(alloc, "k")?, Value::Whole(key as i128))?;
@@ -241,6 +242,7 @@ fn path(alloc: Global) -> Result<Listed<Cell>, Memory> {
     path.push(Cell::Null)?;
     path.push(Cell::Bool(true))?;
     path.push(Cell::Int(-4))?;
+    path.push(Cell::Date(0))?;
     path.push(Cell::Moment(1500))?;
     path.push(Cell::Words(Text::from_str(alloc, "x")?))?;
     Ok(path)
@@ -255,6 +257,9 @@ fn odd_cells(alloc: Global) -> Result<ShownCells, Memory> {
     let mut cells = ShownCells::new(alloc);
     cells.put(Text::from_str(alloc, "w")?, Value::Words(odd_text(alloc)?))?;
     cells.put(Text::from_str(alloc, "b")?, Value::Bool(false))?;
+    cells.put(Text::from_str(alloc, "d")?, Value::Date(2932896))?;
+    let fraction = Fraction::reduced(-2, 6);
+    cells.put(Text::from_str(alloc, "f")?, Value::Fraction(fraction))?;
     cells.put(Text::from_str(alloc, "t")?, Value::Moment(-1))?;
     cells.put(Text::from_str(alloc, "m")?, Value::Whole(9007199254740991))?;
     cells.put(Text::from_str(alloc, "n")?, Value::Whole(-9007199254740992))?;
@@ -292,7 +297,7 @@ fn kinds_and_escapes_are_written(rt: HostRuntime) -> Result<(), Fail> {
         },
     )?;
     let want =
-        "{\"edit\":1,\"from\":3,\"header\":[[\"\\\"\\\\\\n\\u0001é\",\"datetime\"]],\"is\":\"rows\",\"n\":7,\"rows\":[[[\"g\",null,true,-4,[\"t\",1500],\"x\"],true,{\"b\":false,\"m\":9007199254740991,\"n\":[\"i\",\"-9007199254740992\"],\"t\":[\"t\",-1],\"w\":\"\\\"\\\\\\n\\u0001é\"}]],\"size\":9,\"version\":2,\"view\":4}";
+        "{\"edit\":1,\"from\":3,\"header\":[[\"\\\"\\\\\\n\\u0001é\",\"datetime\"]],\"is\":\"rows\",\"n\":7,\"rows\":[[[\"g\",null,true,-4,[\"d\",\"1970-01-01\"],[\"t\",1500],\"x\"],true,{\"b\":false,\"d\":[\"d\",\"9999-12-31\"],\"f\":[-1,3],\"m\":9007199254740991,\"n\":[\"i\",\"-9007199254740992\"],\"t\":[\"t\",-1],\"w\":\"\\\"\\\\\\n\\u0001é\"}]],\"size\":9,\"version\":2,\"view\":4}";
     assert_eq!(rt; reply.as_str(), want);
     Ok(())
 }

@@ -1,4 +1,4 @@
-use Rattle.std.proofs.Common.{◌≡◌, Bool, true, false, sym}
+use Rattle.std.proofs.Common.{◌≡◌, true, false, sym}
 use Rattle.serde_json.specs.View.{view}
 use Rattle.frame_json.proofs.Texts.{json_of-read, json_of-refused}
 use Rattle.frame_json.proofs.parse.parsed.Goals as goal
