@@ -1,7 +1,7 @@
 -- Lists that ascend strictly: sorting gives them, and one set of items has only one.
-use Rattle.std.proofs.Common.{◌≡◌, ◌⊎◌, inl, inr, ℕ, ◌<◌, List, [], ◌∷◌, ◌++◌, length, get_or, map, cond, Bool, true, false, Ordering, Less, Equal, Greater, refl, sym, ◌∙◌, ap, subst, arith}
+use Rattle.std.proofs.Common.{◌≡◌, ◌⊎◌, inl, inr, List, [], ◌∷◌, ◌++◌, get_or, cond, true, false, Ordering, Less, Equal, Greater, refl, sym, ◌∙◌, ap, subst}
 use Rattle.std.specs.Cmp.{IsTotalOrder, eq_by_cmp_equiv}
-use Rattle.std.specs.List.{All, AllByRecursion, IsDistinct, fold}
+use Rattle.std.specs.List.{All, IsDistinct, fold}
 use Rattle.std.specs.List.Sorted.{IsPermutation, IsStrictlySortedBy}
 use Rattle.std.specs.Ordering.{eq_by_cmp, is_eq, is_lt, ordering_reverse}
 use Rattle.std.proofs.lemmas.Cmp.{tied_itself}
@@ -18,11 +18,11 @@ pub IsPermutation-insert_by : {X : Type 0} (order : X → X → Ordering) (x : X
 IsPermutation-insert_by order x [] = IsPermutation-refl (x ∷ [])
 IsPermutation-insert_by order x (y ∷ ys) =
     let behind : IsPermutation (x ∷ y ∷ ys) (y ∷ insert_by order x ys) =
-        IsPermutation-trans (x ∷ y ∷ ys) (y ∷ x ∷ ys) (y ∷ insert_by order x ys)
-        (IsPermutation-sym (y ∷ x ∷ ys) (x ∷ y ∷ ys) (IsPermutation-middle (y ∷ []) x ys))
-        (IsPermutation-cons y (x ∷ ys) (insert_by order x ys) (IsPermutation-insert_by order x ys)) in
+    IsPermutation-trans (x ∷ y ∷ ys) (y ∷ x ∷ ys) (y ∷ insert_by order x ys)
+    (IsPermutation-sym (y ∷ x ∷ ys) (x ∷ y ∷ ys) (IsPermutation-middle (y ∷ []) x ys))
+    (IsPermutation-cons y (x ∷ ys) (insert_by order x ys) (IsPermutation-insert_by order x ys)) in
     elim (is_lt (order x y)) as (λ b. IsPermutation (x ∷ y ∷ ys) (cond b (x ∷ y ∷ ys) (y ∷ insert_by order x ys))) [
-        true ↦ IsPermutation-refl (x ∷ y ∷ ys)
+      | true ↦ IsPermutation-refl (x ∷ y ∷ ys)
       | false ↦ behind
     ]
 
@@ -32,8 +32,8 @@ IsPermutation-fold order sorted (x ∷ xs) =
     IsPermutation-trans (sorted ++ x ∷ xs) ((x ∷ sorted) ++ xs) (fold (λ sorted x. insert_by order x sorted) (insert_by order x sorted) xs)
     (IsPermutation-middle sorted x xs)
     (IsPermutation-trans ((x ∷ sorted) ++ xs) (insert_by order x sorted ++ xs) (fold (λ sorted x. insert_by order x sorted) (insert_by order x sorted) xs)
-     (IsPermutation-append_left xs (x ∷ sorted) (insert_by order x sorted) (IsPermutation-insert_by order x sorted))
-     (IsPermutation-fold order (insert_by order x sorted) xs))
+    (IsPermutation-append_left xs (x ∷ sorted) (insert_by order x sorted) (IsPermutation-insert_by order x sorted))
+    (IsPermutation-fold order (insert_by order x sorted) xs))
 
 pub IsPermutation-sorted_by : {X : Type 0} (order : X → X → Ordering) (xs : List X) → IsPermutation xs (sorted_by order xs)
 IsPermutation-sorted_by order xs = IsPermutation-fold order [] xs
@@ -53,16 +53,18 @@ inserted : {X : Type 0} (R : X → X → Ordering) → IsTotalOrder R → (x y :
     → IsStrictlySortedBy R (y ∷ ys) → IsStrictlySortedBy R (insert_by R x ys) → IsStrictlySortedBy R (cond (is_lt o) (x ∷ y ∷ ys) (y ∷ insert_by R x ys))
 unfolding IsStrictlySortedBy
 inserted R t x y ys Less e apart up more =
-    let later : All (λ z. R y z ≡ Less) ys = All-from_recursion (λ z. R y z ≡ Less) ys up.0 in
-    (recursion_from_All (λ z. R x z ≡ Less) (y ∷ ys)
-     (All-cons (λ z. R x z ≡ Less) y ys e (All-weaker (λ z. R y z ≡ Less) (λ z. R x z ≡ Less) (λ z less. t.trans x y z e less) ys later)),
-     up)
+    let later : All (λ z. R y z ≡ Less) ys = All-from_recursion (λ z. R y z ≡ Less) ys up.0 in (
+      recursion_from_All (λ z. R x z ≡ Less) (y ∷ ys)
+          (All-cons (λ z. R x z ≡ Less) y ys e (All-weaker (λ z. R y z ≡ Less) (λ z. R x z ≡ Less) (λ z less. t.trans x y z e less) ys later)),
+      up,
+    )
 inserted R t x y ys Equal e apart up more = absurd (let wrong : true ≡ false = apart in cc)
 inserted R t x y ys Greater e apart up more =
-    let later : All (λ z. R y z ≡ Less) ys = All-from_recursion (λ z. R y z ≡ Less) ys up.0 in
-    (recursion_from_All (λ z. R y z ≡ Less) (insert_by R x ys)
-     (All-insert_by (λ z. R y z ≡ Less) R x ys (t.antisymm y x ∙ ap ordering_reverse e) later),
-     more)
+    let later : All (λ z. R y z ≡ Less) ys = All-from_recursion (λ z. R y z ≡ Less) ys up.0 in (
+      recursion_from_All (λ z. R y z ≡ Less) (insert_by R x ys)
+          (All-insert_by (λ z. R y z ≡ Less) R x ys (t.antisymm y x ∙ ap ordering_reverse e) later),
+      more,
+    )
 
 pub ascending-insert_by : {X : Type 0} (R : X → X → Ordering) → IsTotalOrder R → (x : X) (ys : List X) → All (λ y. eq_by_cmp R x y ≡ false) ys
     → IsStrictlySortedBy R ys → IsStrictlySortedBy R (insert_by R x ys)
@@ -116,11 +118,11 @@ same_ascending R t [] (y ∷ ys) up down there back = absurd (All-head (λ z. �
 same_ascending R t (x ∷ xs) [] up down there back = absurd (All-head (λ z. ⊥) x xs (back (λ z. ⊥) (All-nil (λ z. ⊥))))
 same_ascending R t (x ∷ xs) (y ∷ ys) up down there back =
     let same : x ≡ y =
-        same_first R t x y (All-head (λ z. (x ≡ z) ⊎ (R x z ≡ Less)) y ys (there (λ z. (x ≡ z) ⊎ (R x z ≡ Less)) (place_in R x xs up)))
-        (All-head (λ z. (y ≡ z) ⊎ (R y z ≡ Less)) x xs (back (λ z. (y ≡ z) ⊎ (R y z ≡ Less)) (place_in R y ys down))) in
+    same_first R t x y (All-head (λ z. (x ≡ z) ⊎ (R x z ≡ Less)) y ys (there (λ z. (x ≡ z) ⊎ (R x z ≡ Less)) (place_in R x xs up)))
+    (All-head (λ z. (y ≡ z) ⊎ (R y z ≡ Less)) x xs (back (λ z. (y ≡ z) ⊎ (R y z ≡ Less)) (place_in R y ys down))) in
     let rest : xs ≡ ys =
-        same_ascending R t xs ys (sorted_tail R x xs up) (sorted_tail R y ys down)
-        (behind R t x y xs ys same down there) (behind R t y x ys xs (sym same) up back) in
+    same_ascending R t xs ys (sorted_tail R x xs up) (sorted_tail R y ys down)
+    (behind R t x y xs ys same down there) (behind R t y x ys xs (sym same) up back) in
     ap (λ z. z ∷ xs) same ∙ ap (λ zs. y ∷ zs) rest
 
 pub ascending-unique : {X : Type 0} (R : X → X → Ordering) → IsTotalOrder R → (xs ys : List X) → IsStrictlySortedBy R xs → IsStrictlySortedBy R ys → IsPermutation xs ys → xs ≡ ys
@@ -133,5 +135,5 @@ sorted_by-IsPermutation R t xs ys distinct moved =
     let too = IsDistinct-IsPermutation (eq_by_cmp R) (eq_by_cmp_equiv t).symm xs ys moved distinct in
     ascending-unique R t (sorted_by R xs) (sorted_by R ys) (ascending-sorted_by R t xs distinct) (ascending-sorted_by R t ys too)
     (IsPermutation-trans (sorted_by R xs) xs (sorted_by R ys)
-     (IsPermutation-sym xs (sorted_by R xs) (IsPermutation-sorted_by R xs))
-     (IsPermutation-trans xs ys (sorted_by R ys) moved (IsPermutation-sorted_by R ys)))
+    (IsPermutation-sym xs (sorted_by R xs) (IsPermutation-sorted_by R xs))
+    (IsPermutation-trans xs ys (sorted_by R ys) moved (IsPermutation-sorted_by R ys)))

@@ -102,8 +102,8 @@ places_differ [] h = IsDistinct-nil
 places_differ (p ∷ pairs) h =
     IsDistinct-cons (eq_by_cmp by_place) p pairs
     (recursion_from_All (λ q. eq_by_cmp by_place p q ≡ false) pairs
-     (λ k d l. not_tied (by_place p (get_or pairs k d))
-      (λ tie. h.0 k d.key (subst (λ n. k < n) (sym (length-map pairs (λ (q : Pair). q.key))) l) (get_or-map (λ (q : Pair). q.key) pairs k d d.key l ∙ sym (by_place-exact p (get_or pairs k d) tie)))))
+    (λ k d l. not_tied (by_place p (get_or pairs k d))
+    (λ tie. h.0 k d.key (subst (λ n. k < n) (sym (length-map pairs (λ (q : Pair). q.key))) l) (get_or-map (λ (q : Pair). q.key) pairs k d d.key l ∙ sym (by_place-exact p (get_or pairs k d) tie)))))
     (places_differ pairs h.1)
 
 -- what a flat view shows does not depend on the order of the rows

@@ -13,14 +13,14 @@ loop-i-preserved c =
     let after = c.loop-i.i + 1 in
     let item = c.index-pairs-i.result in
     let all : take (length pairs - after) (drop after pairs) ≡ drop after pairs =
-        take_all (length pairs - after) (drop after pairs) (omega (arith, length-drop after pairs)) in
+    take_all (length pairs - after) (drop after pairs) (omega (arith, length-drop after pairs)) in
     let told : c.stands_in.result ≡ list_any (λ (p : Pair). same_cell p.key item.key) (take (length pairs - after) (drop after pairs)) = c.stands_in.ensures in
     let missed : list_any (λ (p : Pair). same_cell p.key item.key) (drop after pairs) ≡ false =
-        ap (λ ys. list_any (λ (p : Pair). same_cell p.key item.key) ys) (sym all) ∙ sym told ∙ c.if-stands_in.false in
+    ap (λ ys. list_any (λ (p : Pair). same_cell p.key item.key) ys) (sym all) ∙ sym told ∙ c.if-stands_in.false in
     λ rest. c.loop-i.invariant
     (AreDistinct-drop_more cell_order total (λ (p : Pair). p.key) pairs c.loop-i.i item c.loop-i-test.true
-     (subst (λ (z : Pair). list_any (λ (p : Pair). same_cell p.key z.key) (drop after pairs) ≡ false) c.index-pairs-i.is missed)
-     rest)
+    (subst (λ (z : Pair). list_any (λ (p : Pair). same_cell p.key z.key) (drop after pairs) ≡ false) c.index-pairs-i.is missed)
+    rest)
 
 pub returns : goal.returns
 returns c =
