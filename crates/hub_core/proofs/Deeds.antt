@@ -59,7 +59,7 @@ apply_does m past port before table q after number b h few session is lt at fron
     let small : q.taken + 1 < 2 ^ 64 = omega (arith, taken, h.queues.within port, accepted_le past port) in
     let one_more : after.taken ≡ q.taken + 1 = took small in
     let went : after ≡ record { waiting = drop 1 q.waiting; taken = q.taken + 1 } =
-        ap (λ w. record { waiting = w; taken = after.taken }) left ∙ ap (λ k. record { waiting = drop 1 q.waiting; taken = k }) one_more in
+    ap (λ w. record { waiting = w; taken = after.taken }) left ∙ ap (λ k. record { waiting = drop 1 q.waiting; taken = k }) one_more in
     let raised : number ≡ m.version + 1 = omega (arith, next, h.table.version, applied_le past) in
     record {
       given = record { right = ap (body.Applied port) (one_more ∙ ap (λ k. k + 1) taken) ∙ sym plain; allowed = refl };

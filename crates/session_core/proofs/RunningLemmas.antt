@@ -281,6 +281,7 @@ reads_end before left left' into written reader reader' Stands came more done re
         → (b ≡ false → IsAtEnd left') → (b ≡ true → held ≡ [] → left' ≡ left) → lines (came ++ more) ≡ done
     end_cut true held left left' came more done cut all none last same = ap (λ bs. lines (came ++ bs)) none ∙ ap lines (append-nil came) ∙ cut.0
     end_cut false held left left' came more done cut all none last same = (cut more).0 ∙ ap (λ bs. done ++ lines bs) all ∙ append-nil done
+
     end_left : (b : Bool) (held : List ℕ) (left left' : Option (List ℕ)) (came : List ℕ) (done : List (List ℕ)) → Cut b held left came done
         → (b ≡ false → IsAtEnd left') → (b ≡ true → held ≡ [] → left' ≡ left) → IsAtEnd left'
     end_left true held left left' came done cut last same = subst IsAtEnd (sym (same refl cut.1)) cut.2
@@ -309,6 +310,7 @@ lost before left left' into written reader reader' Stands came more done replies
     nothing_at reader more (line.Words text) held' ended' is gives = absurd (let wrong : line.Words text ≡ line.End = is in cc)
     nothing_at reader more line.Long held' ended' is gives = absurd (let wrong : line.Long ≡ line.End = is in cc)
     nothing_at reader more line.End held' ended' is gives = nothing_more reader.held more gives.0
+
     after_line : (b : Bool) (held : List ℕ) (left : Option (List ℕ)) (came more : List ℕ) (done : List (List ℕ)) → Cut b held left came done → (b ≡ true → held ≡ [] → more ≡ [])
         → (others : List (List ℕ)) × (lines (came ++ more) ≡ done ++ others)
     after_line true held left came more done cut none = ([], ap (λ bs. lines (came ++ bs)) (none refl cut.1) ∙ ap lines (append-nil came) ∙ cut.0 ∙ sym (append-nil done))

@@ -81,8 +81,7 @@ returns-in_err-answer-clause-err g c =
     (g.C.Caller.stands c.args.caller.now) runs.0 c.in_ok-line.ensures.line.0 runs.1 runs.2 runs.3 c.in_ok-line.line (asked_view c.in-Some.asked) c.requires.longest runs.4 read some in
     let left = c.in_err-answer.ensures.partly runs.3 runs.4.stands in
     let part_of : PartOf script_limit runs.3 (asked_view c.in-Some.asked) left.0 = subst (λ (n : ℕ). PartOf n runs.3 (asked_view c.in-Some.asked) left.0) c.requires.limit left.2 in
-    let next = subst (λ (q : ℕ × Ask). PartOf script_limit runs.3 q left.0) (sym line.1) part_of in
-    (
+    let next = subst (λ (q : ℕ × Ask). PartOf script_limit runs.3 q left.0) (sym line.1) part_of in (
       runs.0 ++ c.in_ok-line.ensures.line.0,
       reply_lines runs.2 ++ left.0,
       line.2.consumed,
@@ -90,7 +89,7 @@ returns-in_err-answer-clause-err g c =
       stopped c.in_err-answer.field-0.0 (g.S.Source.left c.next.new.source) (runs.0 ++ c.in_ok-line.ensures.line.0) (reply_lines runs.2 ++ left.0)
           (λ e. c.in_err-answer.ensures.no_read (ap Err e)) (λ e. c.in_err-answer.ensures.no_many (ap Err e))
           (stops before (g.S.Source.left c.next.new.source) into (g.K.Sink.written c.args.sink.now) (g.K.Sink.written c.answer.new.sink) c.next.new.self (g.C.Caller.stands c.args.caller.now)
-              (runs.0 ++ c.in_ok-line.ensures.line.0) runs.1 line.0 runs.2 runs.3 left.0 line.2 left.1 next)
+          (runs.0 ++ c.in_ok-line.ensures.line.0) runs.1 line.0 runs.2 runs.3 left.0 line.2 left.1 next)
           (let within : c.next.new.self.given ≤ 2 ^ 30 = c.in_ok-line.ensures.within in let given = line.2.given in omega arith),
     ))
 
@@ -112,8 +111,7 @@ returns-clause-ok g c =
     let P : ℕ → Type 0 = λ n. Answered n runs.3 (asked_view c.in-Some.asked) (g.C.Caller.stands c.answer.new.caller) (g.K.Sink.written c.args.sink.now) (g.K.Sink.written c.answer.new.sink) in
     let here = subst P c.requires.limit done in
     let Q : ℕ × Ask → Type 0 = λ q. Answered script_limit runs.3 q (g.C.Caller.stands c.answer.new.caller) (g.K.Sink.written c.args.sink.now) (g.K.Sink.written c.answer.new.sink) in
-    let answered = subst Q (sym line.1) here in
-    (
+    let answered = subst Q (sym line.1) here in (
       runs.0 ++ c.in_ok-line.ensures.line.0,
       runs.1 ++ line.0 ∷ [],
       runs.2 ++ answered.reply ∷ [],
