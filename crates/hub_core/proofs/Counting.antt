@@ -1,5 +1,5 @@
 -- What is counted in a history is at most as long as the history.
-use Rattle.std.proofs.Common.{◌≡◌, ℕ, ◌+◌, ◌≤◌, eqb, Bool, true, false, List, [], ◌∷◌, ◌++◌, length, Option, Some, None, if◌then◌else◌, arith, length-append}
+use Rattle.std.proofs.Common.{ℕ, ◌+◌, ◌≤◌, eqb, Bool, true, false, List, [], ◌∷◌, length, Option, Some, None, if◌then◌else◌, arith, length-append}
 use Rattle.cell_core.specs.Schemas.{SchemaData}
 use Rattle.row_batch.specs.declared.batch.Batch.{Batch}
 use Rattle.frame_types.specs.Asks.{Ask}

@@ -1,5 +1,5 @@
 -- What each request does that is granted.
-use Rattle.std.proofs.Common.{◌≡◌, ℕ, ◌+◌, ◌<◌, ◌^◌, ◌-◌, min, eqb, ltb, Bool, true, false, not, List, [], ◌∷◌, ◌++◌, length, drop, set, get_or, map, find, Option, Some, None, option_map, unwrap_or, Vec, Global, refl, sym, ap, ◌∙◌, arith}
+use Rattle.std.proofs.Common.{◌≡◌, ℕ, ◌+◌, ◌<◌, ◌^◌, ◌-◌, min, eqb, ltb, true, false, List, [], ◌∷◌, ◌++◌, length, drop, set, get_or, find, Option, Some, None, option_map, unwrap_or, Vec, Global, refl, sym, ap, ◌∙◌, arith}
 use Rattle.std.specs.Prelude.{is_none, slice_get}
 use Rattle.std.proofs.lemmas.Bool.{ne_eqb}
 use Rattle.std.proofs.lemmas.List.{length-map}

@@ -1,7 +1,6 @@
 -- A machine that nothing was asked of.
-use Rattle.std.proofs.Common.{◌≡◌, ℕ, ◌<◌, List, [], length, get_or, Option, None, refl, ap, arith}
+use Rattle.std.proofs.Common.{◌≡◌, ℕ, ◌<◌, List, [], length, get_or, None, refl, ap, arith}
 use Rattle.hub_core.specs.Holding.{Holds, HoldsPorts}
-use Rattle.hub_core.specs.Queues.{queue_at, no_queue}
 use Rattle.hub_core.specs.Tables.{schema_in, store_in}
 use Rattle.hub_core.specs.declared.machine.Machine.{Machine}
 use Rattle.hub_core.specs.declared.queues.Queue.{Queue}

@@ -1,5 +1,5 @@
 -- What a step makes of the queues.
-use Rattle.std.proofs.Common.{◌≡◌, subst, ℕ, ◌+◌, ◌<◌, ◌≤◌, eqb, true, List, [], ◌∷◌, ◌++◌, length, drop, set, get_or, Option, Some, refl, sym, ap, ◌∙◌, inl, inr, arith, length-append, length-drop, get_or-set_same, get_or-set_other, suc, zero}
+use Rattle.std.proofs.Common.{◌≡◌, subst, ℕ, ◌+◌, ◌<◌, ◌≤◌, List, [], ◌∷◌, ◌++◌, length, drop, set, Some, refl, sym, ap, ◌∙◌, inl, inr, arith, length-append, length-drop, get_or-set_same, get_or-set_other}
 use Rattle.std.proofs.lemmas.Bool.{cases_eq, eq-eqb, ne_eqb}
 use Rattle.std.proofs.lemmas.List.{drop-append-le, drop-drop, length-set}
 use Rattle.row_batch.specs.declared.batch.Batch.{Batch}

@@ -1,5 +1,5 @@
 -- Refusals, which leave a machine as it was.
-use Rattle.std.proofs.Common.{◌≡◌, ℕ, eqb, Bool, true, false, ◌&&◌, List, [], ◌∷◌, if◌then◌else◌, Result, Ok, Err, refl, sym, ap, ◌∙◌}
+use Rattle.std.proofs.Common.{◌≡◌, ℕ, eqb, true, false, List, if◌then◌else◌, Result, Ok, Err, refl, sym}
 use Rattle.std.specs.Prelude.{OnOk, is_err, is_ok}
 use Rattle.frame_types.specs.Asks.{Ask}
 use Rattle.frame_types.specs.Refusals.{memory}

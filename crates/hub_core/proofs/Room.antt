@@ -7,7 +7,7 @@ use Rattle.row_batch.specs.Batches.{rows_in}
 use Rattle.hub_spec.specs.Answered.{Answered}
 use Rattle.hub_spec.specs.Ports as ports
 use Rattle.hub_core.specs.Holding.{HoldsPorts}
-use Rattle.hub_core.specs.Queues.{queue_at, no_queue, rows_in_queue, rows_in_queues}
+use Rattle.hub_core.specs.Queues.{no_queue, rows_in_queue, rows_in_queues}
 use Rattle.hub_core.specs.declared.queues.Queue.{Queue}
 
 below : (queues : List Queue) (past : List Answered) → HoldsPorts queues past → (n : ℕ) → n ≤ length queues

@@ -9,7 +9,7 @@ use Rattle.frame_types.specs.declared.reply.Body.TheVariants as body
 use Rattle.frame_types.specs.declared.reply.Reply.{Reply}
 use Rattle.hub_spec.specs.Answered.{Answered, entries_of}
 use Rattle.hub_spec.specs.Answers.{plain}
-use Rattle.hub_spec.specs.Histories.{Entry, answered, answer, choice_of, chosen, may_choose, is_allowed, IsLegal, told, followed}
+use Rattle.hub_spec.specs.Histories.{Entry, answered, choice_of, chosen, may_choose, is_allowed, IsLegal}
 use Rattle.hub_spec.specs.Ports.{version_after}
 use Rattle.hub_spec.specs.Runs as runs
 use Rattle.hub_core.specs.Holding.{Holds, Does, plain_in, with_step}

@@ -1,16 +1,15 @@
 -- What a step makes of the table's schema, rows and version.
-use Rattle.std.proofs.Common.{◌≡◌, ℕ, ◌+◌, List, [], ◌∷◌, ◌++◌, length, fold, Option, Some, None, Result, Ok, unwrap_or, refl, sym, ap, ◌∙◌, arith, length-append}
+use Rattle.std.proofs.Common.{◌≡◌, ℕ, ◌+◌, List, [], ◌∷◌, ◌++◌, fold, Option, Some, None, refl, sym, ap, ◌∙◌, length-append}
 use Rattle.std.proofs.lemmas.List.Sums.{fold-append}
-use Rattle.cell_core.specs.Schemas.{SchemaData, schema_of}
-use Rattle.cell_core.specs.declared.schema.ColumnWords.{ColumnWords}
-use Rattle.row_batch.specs.Batches.{Store, empty_store, put_batch}
+use Rattle.cell_core.specs.Schemas.{SchemaData}
+use Rattle.row_batch.specs.Batches.{empty_store, put_batch}
 use Rattle.row_batch.specs.declared.batch.Batch.{Batch}
 use Rattle.frame_types.specs.Asks.{Ask}
 use Rattle.frame_types.specs.declared.reply.Body.TheVariants as body
 use Rattle.hub_spec.specs.Answered.{Answered}
 use Rattle.hub_spec.specs.Ports.{Applied, waiting, taken, applied, with_first}
 use Rattle.hub_spec.specs.Ports as ports
-use Rattle.hub_spec.specs.Rows.{put_applied, no_schema, store}
+use Rattle.hub_spec.specs.Rows.{put_applied, store}
 use Rattle.hub_core.specs.Holding.{HoldsTable, with_step}
 use Rattle.hub_core.specs.Tables.{TableData, schema_in, store_in}
 

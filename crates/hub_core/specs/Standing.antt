@@ -1,5 +1,5 @@
 -- Which histories a hub stands for.
-use Rattle.std.specs.Prelude.{◌≡◌, ℕ, ◌+◌, ◌<◌, ◌^◌, List, length, slice_index}
+use Rattle.std.specs.Prelude.{◌≡◌, ℕ, ◌<◌, ◌^◌, List, length, slice_index}
 use Rattle.hub_spec.specs.Answered.{entries_of}
 use Rattle.hub_spec.specs.Histories.{Entry, answered, IsLegal}
 use Rattle.hub_core.specs.Holding.{Holds}

@@ -1,3 +1,5 @@
+ghost use Rattle.std.specs.Prelude.{◌≤◌};
+
 use crate::{Hub, LocalCaller};
 use cell_core::{ColumnWords, Listed, Raw, RawList, RawMap, Text};
 use frame_types::{Body, FrameCause, Reply, Request};
@@ -5,6 +7,7 @@ use hub_spec::Caller;
 use sqlite_items::Items;
 use std::alloc::Global;
 use std::collections::BTreeMap;
+use std::process::Abort;
 use std::test::Fail;
 use view_types::Shown;
 
@@ -83,125 +86,101 @@ fn put_rows(alloc: Global, text: &mut String, shown: &Shown) -> Result<(), Fail>
     Ok(())
 }
 
+/// Asks, and compares the reply's text.
+fn says(
+    rt: &impl Abort,
+    alloc: Global,
+    caller: &mut LocalCaller,
+    session: u32,
+    request: Request,
+    want: &str,
+) -> Result<(), Fail>
+    requires { session ≤ 65 }
+{
+    let reply = caller.call(session, request);
+    let said = text_of(alloc, &reply)?;
+    assert_eq!(rt; said.as_str(), want);
+    Ok(())
+}
+
 #[test]
 fn a_batch_is_queued_applied_and_shown(rt: HostRuntime) -> Result<(), Fail> {
     let alloc = rt.alloc();
     let mut caller = LocalCaller::make(Hub::make(alloc, 100)?);
+    let made = table(alloc, &["k", "v"])?;
+    says(&rt, alloc, &mut caller, 0, made, "1 0 Table")?;
+    let port = "2 0 Port { port: 0 }";
+    says(&rt, alloc, &mut caller, 0, Request::Port, port)?;
     let first = row(alloc, &[("k", 2), ("v", 5)])?;
     let second = row(alloc, &[("k", 1), ("v", 7)])?;
-    let asked = [
-        (table(alloc, &["k", "v"])?, "1 0 Table"),
-        (Request::Port, "2 0 Port { port: 0 }"),
-        (
-            update(alloc, 0, first, second)?,
-            "3 0 Queued { port: 0, seq: 1 }",
-        ),
-        (
-            Request::Apply { port: 0 },
-            "4 1 Applied { port: 0, seq: 1 }",
-        ),
-        (
-            open(alloc),
-            "5 1 opened 0 0; Row(Int(1)) k=Whole(1) v=Whole(7); Row(Int(2)) k=Whole(2) v=Whole(5)",
-        ),
-        (
-            Request::Rows {
-                view: 0,
-                from: 1,
-                to: 9,
-            },
-            "6 1 rows 0 1 2 0; Row(Int(2)) k=Whole(2) v=Whole(5)",
-        ),
-    ];
-    for (request, want) in asked {
-        let reply = caller.call(0, request);
-        assert_eq!(rt; text_of(alloc, &reply)?.as_str(), want);
-    }
+    let queued = "3 0 Queued { port: 0, seq: 1 }";
+    let rows = update(alloc, 0, first, second)?;
+    says(&rt, alloc, &mut caller, 0, rows, queued)?;
+    applied_and_shown(&rt, alloc, &mut caller)?;
     drop(caller.end());
     Ok(())
+}
+
+fn applied_and_shown(rt: &impl Abort, alloc: Global, caller: &mut LocalCaller) -> Result<(), Fail> {
+    let applied = "4 1 Applied { port: 0, seq: 1 }";
+    says(rt, alloc, caller, 0, Request::Apply { port: 0 }, applied)?;
+    let opened =
+        "5 1 opened 0 0; Row(Int(1)) k=Whole(1) v=Whole(7); Row(Int(2)) k=Whole(2) v=Whole(5)";
+    says(rt, alloc, caller, 0, open(alloc), opened)?;
+    let window = Request::Rows {
+        view: 0,
+        from: 1,
+        to: 9,
+    };
+    let shown = "6 1 rows 0 1 2 0; Row(Int(2)) k=Whole(2) v=Whole(5)";
+    says(rt, alloc, caller, 0, window, shown)
 }
 
 #[test]
 fn a_key_named_twice_is_patched_twice(rt: HostRuntime) -> Result<(), Fail> {
     let alloc = rt.alloc();
     let mut caller = LocalCaller::make(Hub::make(alloc, 100)?);
+    drop(caller.call(0, table(alloc, &["k", "a", "b"])?));
+    drop(caller.call(0, Request::Port));
     let first = row(alloc, &[("k", 1), ("a", 3)])?;
     let second = row(alloc, &[("k", 1), ("b", 4)])?;
-    let asked = [
-        (table(alloc, &["k", "a", "b"])?, "1 0 Table"),
-        (Request::Port, "2 0 Port { port: 0 }"),
-        (
-            update(alloc, 0, first, second)?,
-            "3 0 Queued { port: 0, seq: 1 }",
-        ),
-        (
-            Request::Apply { port: 0 },
-            "4 1 Applied { port: 0, seq: 1 }",
-        ),
-        (
-            open(alloc),
-            "5 1 opened 0 0; Row(Int(1)) a=Whole(3) b=Whole(4) k=Whole(1)",
-        ),
-    ];
-    for (request, want) in asked {
-        let reply = caller.call(0, request);
-        assert_eq!(rt; text_of(alloc, &reply)?.as_str(), want);
-    }
-    Ok(())
+    drop(caller.call(0, update(alloc, 0, first, second)?));
+    drop(caller.call(0, Request::Apply { port: 0 }));
+    let opened = "5 1 opened 0 0; Row(Int(1)) a=Whole(3) b=Whole(4) k=Whole(1)";
+    says(&rt, alloc, &mut caller, 0, open(alloc), opened)
 }
 
 #[test]
-fn refusals_and_counts(rt: HostRuntime) -> Result<(), Fail> {
+fn counts_are_per_session(rt: HostRuntime) -> Result<(), Fail> {
     let alloc = rt.alloc();
-    let mut caller = LocalCaller::make(Hub::make(alloc, 6)?);
-    let unbuilt = "Refused(Refusal { code: 1, cause: Unbuilt, at: Zero })";
-    let asked = [
-        (
-            0,
-            Request::Port,
-            "1 0 Refused(Refusal { code: 21, cause: NoTable, at: Zero })",
-        ),
-        (0, table(alloc, &["k"])?, "2 0 Table"),
-        (1, Request::Port, "1 0 Port { port: 0 }"),
-        (
-            65,
-            Request::Apply { port: 0 },
-            "1 0 Refused(Refusal { code: 12, cause: Empty, at: Zero })",
-        ),
-        (
-            1,
-            Request::Unread(FrameCause::Json),
-            "2 0 Refused(Refusal { code: 1, cause: Json, at: Zero })",
-        ),
-        (0, Request::Port, unbuilt),
-        (
-            0,
-            Request::Port,
-            "4 0 Refused(Refusal { code: 11, cause: HistoryFull, at: One(6) })",
-        ),
-    ];
-    for (session, request, want) in asked {
-        let reply = caller.call(session, request);
-        let said = text_of(alloc, &reply)?;
-        assert!(rt; said.as_str().ends_with(want), "{said}");
-    }
-    Ok(())
+    let mut caller = LocalCaller::make(Hub::make(alloc, 100)?);
+    let no_table = "1 0 Refused(Refusal { code: 21, cause: NoTable, at: Zero })";
+    says(&rt, alloc, &mut caller, 0, Request::Port, no_table)?;
+    let made = table(alloc, &["k"])?;
+    says(&rt, alloc, &mut caller, 1, made, "1 0 Table")?;
+    let port = "2 0 Port { port: 0 }";
+    says(&rt, alloc, &mut caller, 0, Request::Port, port)?;
+    let empty = "1 0 Refused(Refusal { code: 12, cause: Empty, at: Zero })";
+    says(
+        &rt,
+        alloc,
+        &mut caller,
+        65,
+        Request::Apply { port: 0 },
+        empty,
+    )?;
+    let unread = Request::Unread(FrameCause::Json);
+    let json = "2 0 Refused(Refusal { code: 1, cause: Json, at: Zero })";
+    says(&rt, alloc, &mut caller, 1, unread, json)
 }
 
 #[test]
 fn a_full_history_stays(rt: HostRuntime) -> Result<(), Fail> {
     let alloc = rt.alloc();
     let mut caller = LocalCaller::make(Hub::make(alloc, 2)?);
+    drop(caller.call(0, table(alloc, &["k", "v"])?));
+    drop(caller.call(0, Request::Port));
     let full = "3 0 Refused(Refusal { code: 11, cause: HistoryFull, at: One(2) })";
-    let asked = [
-        (table(alloc, &["k", "v"])?, "1 0 Table"),
-        (Request::Port, "2 0 Port { port: 0 }"),
-        (Request::Apply { port: 0 }, full),
-        (Request::Apply { port: 0 }, full),
-    ];
-    for (request, want) in asked {
-        let reply = caller.call(0, request);
-        assert_eq!(rt; text_of(alloc, &reply)?.as_str(), want);
-    }
-    Ok(())
+    says(&rt, alloc, &mut caller, 0, Request::Apply { port: 0 }, full)?;
+    says(&rt, alloc, &mut caller, 0, Request::Apply { port: 0 }, full)
 }

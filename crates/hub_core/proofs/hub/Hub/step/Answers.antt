@@ -1,4 +1,4 @@
-use Rattle.std.proofs.Common.{◌≡◌, ◌+◌, set, refl, arith}
+use Rattle.std.proofs.Common.{◌+◌, set, refl, arith}
 use Rattle.frame_types.specs.Asks.{request_view}
 use Rattle.hub_core.specs.Standing.{limit_of}
 use Rattle.hub_core.proofs.Stepping.{full_steps, counted_steps}

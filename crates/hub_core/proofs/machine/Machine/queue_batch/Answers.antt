@@ -1,6 +1,5 @@
-use Rattle.std.proofs.Common.{◌≡◌, ◌+◌, ltb, leb, length, true, false, sym, ap, ◌∙◌, arith}
+use Rattle.std.proofs.Common.{◌≡◌, ◌+◌, ltb, leb, length, sym, ap, ◌∙◌, arith}
 use Rattle.std.proofs.lemmas.List.{get_or_default}
-use Rattle.row_batch.specs.Batches.{rows_in}
 use Rattle.hub_core.specs.Queues.{no_queue, queue_at, rows_in_queues}
 use Rattle.hub_core.specs.Tables.{store_in}
 use Rattle.hub_core.proofs.QueueDeeds.{overfull_does, queued_does}
