@@ -1,17 +1,31 @@
 -- What the status says, from how the script ended.
-use Rattle.std.proofs.Common.{◌≡◌, ℕ, ◌+◌, ◌^◌, ◌<◌, ◌≤◌, List, [], ◌++◌, length, take, map, Option, inl, inr, refl, sym, ap, arith}
+use Rattle.std.proofs.Common.{◌≡◌, ℕ, ◌+◌, ◌^◌, ◌<◌, ◌≤◌, Bool, true, false, cond, List, [], ◌∷◌, ◌++◌, length, take, map, Option, inl, inr, refl, sym, ap, arith}
 use Rattle.std.proofs.KnownBytes.{Consumes-nil, Appends-nil}
 use Rattle.std.specs.Io.KnownBytes.{IsAtEnd}
 use Rattle.io_ends.specs.Lines.{lines, ended_lines}
+use Rattle.std.specs.Bool.{◌==◌}
+use Rattle.std.specs.List.{onto_first}
+use Rattle.session_core.proofs.HistoryLemmas.{tell_histories}
 use Rattle.session_core.specs.Answers.{Answers, PartlyAnswers}
 use Rattle.session_core.specs.Outcome.{Moved, Outcome}
 use Rattle.session_core.specs.declared.script.ScriptEnd.{ScriptEnd}
 use Rattle.session_core.specs.declared.script.ScriptEnd.TheVariants.{Done, Memory, TooLong, ReadFault, WriteFault}
 use Rattle.pv_program.specs.Statuses.{StatusSays, code_of}
 
+-- a line takes a byte at least
+more_lines : (ends : Bool) (b : ℕ) (ls : List (List ℕ)) (n : ℕ) → length ls ≤ n → length (cond ends ([] ∷ ls) (onto_first b ls)) ≤ n + 1
+more_lines true b ls n h = omega arith
+more_lines false b [] n h = omega arith
+more_lines false b (l ∷ ls) n h = omega arith
+
+length-lines : (bytes : List ℕ) → length (lines bytes) ≤ length bytes
+length-lines [] = omega arith
+length-lines (b ∷ bytes) = let rest = more_lines (b == 10) b (lines bytes) (length bytes) (length-lines bytes) in omega arith
+
 pub status_says : (end : ScriptEnd) (left : Option (List ℕ)) (given out : List ℕ) → Outcome end left given out → StatusSays (code_of end) left given out
 status_says (Done count) left given out h = record {
   answered = λ e. (h.0, h.1);
+  told = λ e. tell_histories (lines given) out (let few = length-lines given in let within : length given ≤ 2 ^ 30 = h.3 in omega arith) h.1;
   partly = λ e. elim e [ inl i ↦ absurd (omega arith) | inr i ↦ absurd (omega arith) ];
   other_words = λ e. absurd (omega arith);
   too_many = (λ e. omega arith, λ more. let within = h.3 in omega arith);
@@ -20,6 +34,7 @@ status_says (Done count) left given out h = record {
 }
 status_says Memory left given out h = record {
   answered = λ e. absurd (omega arith);
+  told = λ e. absurd (omega arith);
   partly = λ e. h.0;
   other_words = λ e. absurd (omega arith);
   too_many = (λ e. omega arith, λ more. let within = h.1 in omega arith);
@@ -28,6 +43,7 @@ status_says Memory left given out h = record {
 }
 status_says TooLong left given out h = record {
   answered = λ e. absurd (omega arith);
+  told = λ e. absurd (omega arith);
   partly = λ e. elim e [ inl i ↦ absurd (omega arith) | inr i ↦ absurd (omega arith) ];
   other_words = λ e. absurd (omega arith);
   too_many = (λ e. let size = h.1 in omega arith, λ more. refl);
@@ -36,6 +52,7 @@ status_says TooLong left given out h = record {
 }
 status_says ReadFault left given out h = record {
   answered = λ e. absurd (omega arith);
+  told = λ e. absurd (omega arith);
   partly = λ e. elim e [ inl i ↦ absurd (omega arith) | inr i ↦ absurd (omega arith) ];
   other_words = λ e. absurd (omega arith);
   too_many = (λ e. omega arith, λ more. let within = h.1 in omega arith);
@@ -44,6 +61,7 @@ status_says ReadFault left given out h = record {
 }
 status_says WriteFault left given out h = record {
   answered = λ e. absurd (omega arith);
+  told = λ e. absurd (omega arith);
   partly = λ e. h.0;
   other_words = λ e. absurd (omega arith);
   too_many = (λ e. omega arith, λ more. let within = h.1 in omega arith);
@@ -62,6 +80,7 @@ moved left0 left1 written0 written1 P Q f m = (m.0, m.1, m.2, m.3, f m.0 m.1 m.4
 pub wrong_words : (left : Option (List ℕ)) → StatusSays 2 left [] []
 wrong_words left = record {
   answered = λ e. absurd (omega arith);
+  told = λ e. absurd (omega arith);
   partly = λ e. elim e [ inl i ↦ absurd (omega arith) | inr i ↦ absurd (omega arith) ];
   other_words = λ e. (refl, refl);
   too_many = (λ e. omega arith, λ more. omega arith);

@@ -3,6 +3,7 @@ use Rattle.std.specs.Prelude.{◌≡◌, ℕ, ◌^◌, ◌<◌, List, [], length
 use Rattle.std.specs.Io.KnownBytes.{IsAtEnd}
 use Rattle.io_ends.specs.Lines.{lines, ended_lines}
 use Rattle.session_core.specs.Answers.{Answers, PartlyAnswers}
+use Rattle.session_core.specs.Histories.{TellsHistory}
 use Rattle.session_core.specs.declared.script.ScriptEnd.{ScriptEnd}
 use Rattle.session_core.specs.declared.script.ScriptEnd.TheVariants.{Done, Memory, TooLong, ReadFault, WriteFault}
 
@@ -11,6 +12,8 @@ use Rattle.session_core.specs.declared.script.ScriptEnd.TheVariants.{Done, Memor
 pub record StatusSays (code : ℕ) (left : Option (List ℕ)) (given out : List ℕ) : Type 0 where
   -- the input was read to its end, and each line is answered by one reply line
   pub answered : code ≡ 0 → IsAtEnd left × Answers (lines given) out
+  -- so the output is the reply lines of one legal history, whose requests are those of the lines
+  pub told : code ≡ 0 → TellsHistory (lines given) out
   -- without memory, and after a fault of the sink: the first of the lines are answered, and a front
   -- of the next reply line may be there
   pub partly : (code ≡ 1) ⊎ (code ≡ 5) → PartlyAnswers (lines given) out

@@ -1,4 +1,5 @@
 pub mod Answers
 pub mod Faults
+pub mod Histories
 pub mod Outcome
 pub mod Running

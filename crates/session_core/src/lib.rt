@@ -6,6 +6,8 @@
 //! which bytes were written.
 #![tactic(auto)]
 
+mod laws;
 mod script;
 
+pub use laws::answers_tell_histories;
 pub use script::{ScriptEnd, run_script};
