@@ -185,13 +185,26 @@ fn other_words_read_and_write_nothing(rt: HostRuntime) -> Result<(), Fail> {
     Ok(())
 }
 
+/// The key at a place of -500, -499 and so on.
+fn key_at(alloc: Global, place: u32) -> Result<String, Memory> {
+    if place < 500 {
+        let below = 500 - place;
+        Ok(format!(in alloc; "-{below}")?)
+    } else {
+        let above = place - 500;
+        Ok(format!(in alloc; "{above}")?)
+    }
+}
+
 /// A thousand keys from -500 on, each once: 7 and 1,000 have no common factor.
 fn shuffled(alloc: Global) -> Result<String, Memory> {
     let mut input = String::from_str(alloc, SCHEMA)?;
     input.push_str("{\"op\":\"port\"}\n{\"op\":\"update\",\"port\":0,\"rows\":[{\"k\":-500}")?;
-    for i in 1i64..1000 {
-        let key = (i * 7) % 1000 - 500;
-        input.push_str(format!(in alloc; ",{{\"k\":{key}}}")?.as_str())?;
+    for i in 1u32..1000 {
+        let key = key_at(alloc, i.wrapping_mul(7) % 1000)?;
+        input.push_str(",{\"k\":")?;
+        input.push_str(key.as_str())?;
+        input.push_str("}")?;
     }
     input.push_str("]}\n{\"op\":\"apply\",\"port\":0}\n{\"op\":\"open\",\"plan\":{}}\n")?;
     Ok(input)
@@ -199,8 +212,13 @@ fn shuffled(alloc: Global) -> Result<String, Memory> {
 
 fn ascending(alloc: Global) -> Result<String, Memory> {
     let mut rows = String::from_str(alloc, "\"rows\":[[[\"r\",-500],{\"k\":-500}]")?;
-    for key in -499i64..500 {
-        rows.push_str(format!(in alloc; ",[[\"r\",{key}],{{\"k\":{key}}}]")?.as_str())?;
+    for place in 1u32..1000 {
+        let key = key_at(alloc, place)?;
+        rows.push_str(",[[\"r\",")?;
+        rows.push_str(key.as_str())?;
+        rows.push_str("],{\"k\":")?;
+        rows.push_str(key.as_str())?;
+        rows.push_str("}]")?;
     }
     rows.push_str("],\"version\":1,\"view\":0}\n")?;
     Ok(rows)
