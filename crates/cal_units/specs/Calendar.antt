@@ -1,5 +1,5 @@
 -- Days and moments by number, on the calendar that ISO 8601 carries back to the year 1.
-use Rattle.std.specs.Prelude.{ℕ, zero, suc, ◌+◌, Bool, if◌then◌else◌, ℤ, pos, neg_ℤ, ◌+ℤ◌, ◌-ℤ◌, int_le, unsigned_abs}
+use Rattle.std.specs.Prelude.{ℕ, zero, suc, ◌+◌, Bool, ◌&&◌, if◌then◌else◌, ℤ, pos, neg_ℤ, ◌+ℤ◌, ◌-ℤ◌, int_le, unsigned_abs}
 use Rattle.std.specs.Int.{IsInRange, int_div_euclid}
 use Rattle.jiff_core.specs.Calendar.{IsBetween, days_in_month, days_from_civil}
 
@@ -10,6 +10,13 @@ IsDay day = IsBetween (neg_ℤ (pos 719_162)) (pos 2_932_896) day
 -- whole milliseconds since 1970-01-01T00:00:00Z, on one of these days
 abbrev pub IsMoment : ℤ → Type 0
 IsMoment ms = IsBetween (neg_ℤ (pos 62_135_596_800_000)) (pos 253_402_300_799_999) ms
+
+-- the same as tests
+abbrev pub is_day : ℤ → Bool
+is_day day = int_le (neg_ℤ (pos 719_162)) day && int_le day (pos 2_932_896)
+
+abbrev pub is_moment : ℤ → Bool
+is_moment ms = int_le (neg_ℤ (pos 62_135_596_800_000)) ms && int_le ms (pos 253_402_300_799_999)
 
 -- the calendar has this day, and its year is 1 to 9999
 abbrev pub IsCalendarDay : ℕ → ℕ → ℕ → Type 0

@@ -1,11 +1,11 @@
 -- The text of a moment: `YYYY-MM-DDThh:mm:ss`, a fraction of a second or none, and a zone.
-use Rattle.std.specs.Prelude.{ℕ, ◌+◌, ◌*◌, nat_eq, nat_lt, nat_le, ◌&&◌, if◌then◌else◌, List, ◌++◌, length, take, drop, slice_range, Option, Some, None, option_map, option_and_then, Result, Ok, Err, ℤ, pos, neg_ℤ, ◌+ℤ◌, ◌-ℤ◌, ◌*ℤ◌, int_le, codes}
+use Rattle.std.specs.Prelude.{ℕ, ◌+◌, ◌*◌, nat_eq, nat_lt, nat_le, ◌&&◌, if◌then◌else◌, List, ◌++◌, length, take, drop, slice_range, Option, Some, None, option_map, option_and_then, Result, Ok, Err, ℤ, pos, neg_ℤ, ◌+ℤ◌, ◌-ℤ◌, ◌*ℤ◌, codes}
 use Rattle.std.specs.List.{starts_with, prefix_len}
 use Rattle.std.specs.Char.{is_ascii_digit}
 use Rattle.std.specs.Str.Parse.{digits_value}
 use Rattle.cal_units.specs.declared.moments.MomentRefused.{MomentRefused}
 use Rattle.cal_units.specs.declared.moments.MomentRefused.TheVariants.{NotAMoment, OutOfRange}
-use Rattle.cal_units.specs.Calendar.{day_millis, hour_millis, minute_millis, second_millis}
+use Rattle.cal_units.specs.Calendar.{is_moment, day_millis, hour_millis, minute_millis, second_millis}
 use Rattle.cal_units.specs.Digits.{fits, number_in}
 use Rattle.cal_units.specs.DateText.{date_of}
 
@@ -63,9 +63,7 @@ instant_of text =
 -- the same as a moment in range, or why there is none
 abbrev pub in_range : Option ℤ → Result ℤ MomentRefused
 in_range None = Err NotAMoment
-in_range (Some ms) =
-    if int_le (neg_ℤ (pos 62_135_596_800_000)) ms && int_le ms (pos 253_402_300_799_999)
-    then Ok ms else Err OutOfRange
+in_range (Some ms) = if is_moment ms then Ok ms else Err OutOfRange
 
 abbrev pub moment_of : List ℕ → Result ℤ MomentRefused
 moment_of text = in_range (instant_of text)

@@ -7,9 +7,13 @@
 #![tactic(auto)]
 
 mod batch;
+mod change;
 mod draft;
+mod refused;
 mod rows;
 mod table;
 
 pub use batch::{Batch, MAX_BATCH, Pair, Patch, PatchCell, Patches};
+pub use change::{Changes, RowChange};
+pub use refused::{BatchRefused, RowCause};
 pub use table::PlainTable;

@@ -1,0 +1,40 @@
+use cell_core::Numbers;
+
+/// Why rows, keys or a text of rows are refused. The tests that a reader makes, and their order, are in
+/// the definitions of its crate.
+#[derive(Clone, Copy, Debug, Drop, PartialEq, Eq)]
+pub enum RowCause {
+    /// Not a list, an object or a list of objects as required. `at` has the row, or nothing for the
+    /// whole.
+    Shape,
+    /// A record of CSV has another number of fields than the first.
+    Csv,
+    /// The CSV text has no record.
+    Header,
+    /// `at` has the place of a header field that stands earlier too.
+    Twice,
+    /// A name that is no column. `at` has the row, or nothing for the whole.
+    Unknown,
+    /// The lists of an object of lists are not of one length.
+    Length,
+    /// More than 1,024 rows or keys. `at` has their number.
+    Rows,
+    /// The index cell, or a key, is left out or null. `at` has the row.
+    Index,
+    /// The cell is not of the form that its column's type accepts. `at` has the row and the column, as
+    /// in the next three.
+    BadType,
+    /// The text is no date, or no datetime.
+    Date,
+    /// A whole number, a date or a datetime is out of range.
+    Range,
+    /// A text has more than 256 bytes.
+    Long,
+}
+
+/// Why a batch is refused, and where.
+#[derive(Clone, Copy, Debug, Drop, PartialEq, Eq)]
+pub struct BatchRefused {
+    pub cause: RowCause,
+    pub at: Numbers,
+}
