@@ -1,3 +1,4 @@
 pub mod Batches
 pub mod Checks
+pub mod Reading
 pub mod Tables

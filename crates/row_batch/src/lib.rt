@@ -15,5 +15,5 @@ mod table;
 
 pub use batch::{Batch, MAX_BATCH, Pair, Patch, PatchCell, Patches};
 pub use change::{Changes, RowChange};
-pub use refused::{BatchRefused, RowCause};
+pub use refused::{BatchRefused, RowCause, RowsRefused};
 pub use table::PlainTable;

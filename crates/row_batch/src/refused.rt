@@ -1,4 +1,4 @@
-use cell_core::Numbers;
+use cell_core::{Memory, Numbers};
 
 /// Why rows, keys or a text of rows are refused. The tests that a reader makes, and their order, are in
 /// the definitions of its crate.
@@ -37,4 +37,22 @@ pub enum RowCause {
 pub struct BatchRefused {
     pub cause: RowCause,
     pub at: Numbers,
+}
+
+/// Why rows or keys can't be read: the first cause against them, or want of memory.
+#[derive(Clone, Copy, Debug, Drop, PartialEq, Eq)]
+pub enum RowsRefused {
+    Bad(BatchRefused),
+    Memory,
+}
+
+impl From<Memory> for RowsRefused {
+    ghost use Rattle.std.specs.Prelude.{◌≡◌};
+    ghost use Rattle.row_batch.specs.declared.refused.RowsRefused.TheVariants as refused;
+
+    ghost from_gives = { λ want made. made ≡ refused.Memory };
+
+    fn from(_refused: Memory) -> RowsRefused {
+        RowsRefused::Memory
+    }
 }
