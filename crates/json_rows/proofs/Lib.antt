@@ -1,2 +1,4 @@
-pub mod Fronts
-pub mod Kept
+pub mod Members
+pub mod Lists
+pub mod AcrossLemmas
+pub mod Taken

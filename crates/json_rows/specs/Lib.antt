@@ -1,2 +1,2 @@
-pub mod Patches
+pub mod RawOf
 pub mod Reading

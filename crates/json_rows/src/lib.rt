@@ -1,11 +1,19 @@
-//! Rows of a table, read from JSON values.
+//! Rows and keys of a table, read from JSON values (RFC 8259).
 //!
-//! It stands on `cell_core` and `row_batch`. `specs/Reading.antt` says which values are rows and
-//! which patches they stand for. Callers may rely on this: each patch has one cell for each column
-//! of the schema, on a table with an index it sets the index column, and there are never more
-//! patches than a batch may have.
+//! It stands on `serde_json` and `row_cells`. `specs/Reading.antt` says what rows and keys a value stands
+//! for, or the first cause against it. Callers may rely on this: the answer is that one, but for want of
+//! memory, and what was read is a batch that the table takes.
 #![tactic(auto)]
 
-mod reading;
+mod across;
+mod cells;
+mod convert;
+mod keys;
+mod rows;
 
-pub use reading::batch_rows;
+pub use convert::raw_of;
+pub use keys::batch_keys;
+pub use rows::batch_rows;
+
+#[cfg(test)]
+mod tests;

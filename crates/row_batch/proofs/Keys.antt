@@ -71,7 +71,7 @@ distinct_without_step : (drops : Cell → Bool) (p : Pair) (ps : List Pair) (b :
 distinct_without_step drops p ps true is here more = rw is more
 distinct_without_step drops p ps false is here more = rw is (all_without (λ k. k ≢ p.key) drops ps here, more)
 
-distinct_without : (drops : Cell → Bool) (ps : List Pair) → AreDistinct (keys_of_rows ps) → AreDistinct (keys_of_rows (without drops ps))
+pub distinct_without : (drops : Cell → Bool) (ps : List Pair) → AreDistinct (keys_of_rows ps) → AreDistinct (keys_of_rows (without drops ps))
 distinct_without drops [] distinct = tt
 distinct_without drops (p ∷ ps) distinct =
     distinct_without_step drops p ps (drops p.key) refl distinct.0 (distinct_without drops ps distinct.1)
@@ -81,7 +81,7 @@ slot_step : (slot : Cell) (p : Pair) (ps : List Pair) (b : Bool) → same_cell s
 slot_step slot p ps true is more = rw is more
 slot_step slot p ps false is more = rw is (All-cons (λ k. k ≢ slot) p.key _ (different slot p.key is) more)
 
-slot_is_free : (slot : Cell) (ps : List Pair) → All (λ k. k ≢ slot) (keys_of_rows (without (same_cell slot) ps))
+pub slot_is_free : (slot : Cell) (ps : List Pair) → All (λ k. k ≢ slot) (keys_of_rows (without (same_cell slot) ps))
 slot_is_free slot [] = All-nil (λ k. k ≢ slot)
 slot_is_free slot (p ∷ ps) = slot_step slot p ps (same_cell slot p.key) refl (slot_is_free slot ps)
 
@@ -91,7 +91,7 @@ all_push : (P : Cell → Type 0) (key : Cell) (row : List Cell) (ps : List Pair)
 all_push P key row ps all here =
     subst (All P) (sym (map-append (λ (p : Pair). p.key) ps (pair_of key row ∷ []))) (All-push P (keys_of_rows ps) key all here)
 
-distinct_push : (key : Cell) (row : List Cell) (ps : List Pair) → AreDistinct (keys_of_rows ps) → All (λ k. k ≢ key) (keys_of_rows ps) → AreDistinct (keys_of_rows (ps ++ pair_of key row ∷ []))
+pub distinct_push : (key : Cell) (row : List Cell) (ps : List Pair) → AreDistinct (keys_of_rows ps) → All (λ k. k ≢ key) (keys_of_rows ps) → AreDistinct (keys_of_rows (ps ++ pair_of key row ∷ []))
 distinct_push key row [] distinct new = (All-nil (λ k. k ≢ key), tt)
 distinct_push key row (p ∷ ps) distinct new =
     let here : p.key ≢ key = All-head (λ k. k ≢ key) p.key _ new in
@@ -99,10 +99,10 @@ distinct_push key row (p ∷ ps) distinct new =
 
 -- ---- running numbers
 
-below_is_other : (n : ℕ) (key : Cell) → IsNumberBelow n key → key ≢ Int (pos n)
+pub below_is_other : (n : ℕ) (key : Cell) → IsNumberBelow n key → key ≢ Int (pos n)
 below_is_other n key below e = let wrong : n < n = subst (IsNumberBelow n) e below in omega arith
 
-below_more : (n : ℕ) (key : Cell) → IsNumberBelow n key → IsNumberBelow (n + 1) key
+pub below_more : (n : ℕ) (key : Cell) → IsNumberBelow n key → IsNumberBelow (n + 1) key
 below_more n Null below = below
 below_more n (Truth b) below = below
 below_more n (Int (pos k)) below = omega arith
@@ -116,7 +116,7 @@ below_more n (Words s) below = below
 abbrev pub KeepsKeys : Keeping → Store → Type 0
 KeepsKeys keeping s = AreDistinct (keys_of_rows s.pairs) × IsCounted keeping s
 
-patch_keeps : (keeping : Keeping) (width : ℕ) (s : Store) (patch : Row) → KeepsKeys keeping s → KeepsKeys keeping (put_patch keeping width s patch)
+pub patch_keeps : (keeping : Keeping) (width : ℕ) (s : Store) (patch : Row) → KeepsKeys keeping s → KeepsKeys keeping (put_patch keeping width s patch)
 patch_keeps (Indexed column) width s patch h = (distinct_put width (key_in column patch) patch s.pairs h.0, tt)
 patch_keeps (Limited slots) width s patch h =
     let slot = Int (pos (s.number % slots)) in

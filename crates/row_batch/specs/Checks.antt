@@ -11,6 +11,7 @@ use Rattle.cell_core.specs.declared.schema.Keeping.{Keeping}
 use Rattle.cell_core.specs.declared.schema.Keeping.TheVariants.{Indexed, Limited, Free}
 use Rattle.cell_core.specs.declared.schema.Numbers.TheVariants.{One, Two}
 use Rattle.cell_core.specs.Schemas.{SchemaData}
+use Rattle.row_batch.specs.Batches.{key_in}
 use Rattle.row_batch.specs.declared.batch.Batch.{Batch}
 use Rattle.row_batch.specs.declared.batch.Batch.TheVariants as batch
 use Rattle.row_batch.specs.declared.batch.PatchCell.{PatchCell}
@@ -124,15 +125,15 @@ batch_fault schema (batch.Replace patches) = counted_fault (length patches) (pat
 abbrev pub HasWidth : ℕ → List PatchCell → Type 0
 HasWidth width patch = length patch ≡ width
 
+abbrev pub IsIndexed : Keeping → Type 0
+IsIndexed (Indexed column) = Unit {0}
+IsIndexed (Limited slots) = ⊥
+IsIndexed Free = ⊥
+
 -- each patch has one cell for each column, and keys are removed from a table with an index alone
 abbrev pub IsShaped : SchemaData → Batch → Type 0
 IsShaped schema (batch.Update patches) = All (HasWidth (length schema.columns)) patches
 IsShaped schema (batch.Remove keys) = IsIndexed schema.keeping
-  where
-    IsIndexed : Keeping → Type 0
-    IsIndexed (Indexed column) = Unit {0}
-    IsIndexed (Limited slots) = ⊥
-    IsIndexed Free = ⊥
 IsShaped schema batch.Clear = Unit {0}
 IsShaped schema (batch.Replace patches) = All (HasWidth (length schema.columns)) patches
 
@@ -140,3 +141,23 @@ IsShaped schema (batch.Replace patches) = All (HasWidth (length schema.columns))
 pub record IsChecked (schema : SchemaData) (batch : Batch) : Type 0 where
   pub shaped : IsShaped schema batch
   pub good : batch_fault schema batch ≡ None
+
+-- ---- one patch of such a batch
+
+abbrev pub patches_of : Batch → List (List PatchCell)
+patches_of (batch.Update patches) = patches
+patches_of (batch.Remove keys) = []
+patches_of batch.Clear = []
+patches_of (batch.Replace patches) = patches
+
+-- it has one cell for each column, and nothing is to be said against it in its row
+pub record IsCheckedPatch (schema : SchemaData) (patch : List PatchCell) : Type 0 where
+  pub width : HasWidth (length schema.columns) patch
+  pub row : ℕ
+  pub good : patch_fault schema.keeping row 0 schema.columns patch ≡ None
+
+-- the index cell of a patch, where the table has an index
+abbrev pub index_cell : Keeping → List PatchCell → Option Cell
+index_cell (Indexed column) patch = Some (key_in column patch)
+index_cell (Limited slots) patch = None
+index_cell Free patch = None

@@ -2,7 +2,9 @@ ghost use Rattle.row_batch.specs.Tables.{IsCounted};
 
 use super::*;
 use crate::batch::{Patch, PatchCell, Patches};
-use cell_core::{Cell, Cells, ColumnWords, Text};
+use crate::checking::{check, is_shaped};
+use crate::refused::{BatchRefused, RowCause};
+use cell_core::{Cell, Cells, ColumnWords, Numbers, Text};
 use std::process::Abort;
 use std::test::Fail;
 
@@ -171,5 +173,29 @@ fn free_rows_are_counted(rt: HostRuntime) -> Result<(), Fail> {
     let replace = Batch::Replace(patches(alloc, &[&[Some(6)]])?);
     put(&rt, alloc, &mut table, &schema, &replace);
     assert!(rt; holds(&table, &[(0, &[Some(6)])]));
+    Ok(())
+}
+
+#[test]
+fn the_first_cause_is_found(rt: HostRuntime) -> Result<(), Fail> {
+    let alloc = rt.alloc();
+    let schema = schema(alloc, &["k", "v"], Some("k"), None)?;
+    let first: [&[Option<i64>]; 2] = [&[Some(1), KEEP], &[KEEP, Some(9_007_199_254_740_992)]];
+    let second: [&[Option<i64>]; 2] = [&[Some(1), Some(9_007_199_254_740_992)], &[KEEP, KEEP]];
+    let least: [&[Option<i64>]; 1] = [&[Some(-9_007_199_254_740_991), KEEP]];
+    let cases = [
+        (first.as_slice(), Some((RowCause::Index, Numbers::One(1)))),
+        (
+            second.as_slice(),
+            Some((RowCause::Range, Numbers::Two(0, 1))),
+        ),
+        (least.as_slice(), None),
+    ];
+    for (rows, want) in cases {
+        let batch = Batch::Update(patches(alloc, rows)?);
+        assert!(rt; is_shaped(&schema, &batch));
+        let found = check(&schema, &batch).err();
+        assert_eq!(rt; found, want.map(|(cause, at)| BatchRefused { cause, at }));
+    }
     Ok(())
 }
