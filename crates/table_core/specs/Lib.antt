@@ -1,0 +1,4 @@
+pub mod Drafts
+pub mod Lookups
+pub mod Prepared
+pub mod Tables

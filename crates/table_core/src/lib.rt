@@ -1,0 +1,16 @@
+//! The rows of a table, hashed by their keys.
+//!
+//! It stands on `row_batch`, whose `put_batch` says what rows are after a batch, and on `indexmap`. A batch is
+//! taken in two parts: `Table::prepare` makes all room and all copies and leaves the rows as they are, and
+//! `Table::apply` then takes no memory. Its callers may rely on this: after `apply` the rows are those of
+//! `put_batch` in some order, and its changes lead from the old rows to the new ones; every table keeps what
+//! `IsTable` says; a look-up counts one visit.
+#![tactic(auto)]
+
+mod draft;
+mod lookup;
+mod table;
+#[cfg(test)]
+mod tests;
+
+pub use table::{Prepared, Table};
