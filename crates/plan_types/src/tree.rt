@@ -1,5 +1,5 @@
 use plain_data::Text;
-use sqlite_items::{Boxed, Items};
+use tree_items::{Boxed, Items};
 
 /// An operator before one operand.
 #[derive(Clone, Copy, Debug, Drop, PartialEq, Eq)]

@@ -1,0 +1,10 @@
+pub mod Depths
+pub mod Complete
+pub mod Numbers
+pub mod Readings
+pub mod Sound
+pub mod Steps
+pub mod Stops
+pub mod TokenSteps
+pub mod Utf8
+pub mod Words
