@@ -1,0 +1,10 @@
+pub mod Cells
+pub mod PairLists
+pub mod RunningSums
+pub mod Fractions
+pub mod Ascending
+pub mod Repeats
+pub mod MapSteps
+pub mod Ends
+pub mod KeyedRows
+pub mod Walks

@@ -1,0 +1,10 @@
+use Rattle.plan_types.specs.declared.aggregate.AggName.TheVariants as name
+use Rattle.std.proofs.lemmas.Result.{on_ok_weaker}
+use Rattle.agg_core.proofs.Ascending.{IsBagOf-with_pair, bag_has_room}
+use Rattle.agg_core.proofs.each.min.MinAggregate.add.Goals as goal
+
+pub add-requires : goal.add-requires
+add-requires c = bag_has_room name.Min _ _ _ c.requires
+
+pub returns-clause-ok : goal.returns-clause-ok
+returns-clause-ok c = on_ok_weaker c.add.result (IsBagOf-with_pair name.Min _ _ _ _) c.add.ensures.ok

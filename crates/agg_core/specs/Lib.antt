@@ -1,0 +1,11 @@
+pub mod Pairs
+pub mod Types
+pub mod Ratios
+pub mod RatioLaws
+pub mod Fractions
+pub mod Aggregates
+pub mod Standing
+pub mod Counting
+pub mod Numbers
+pub mod Bags
+pub mod Rows

@@ -1,0 +1,10 @@
+-- The rows that are kept whole.
+use Rattle.std.specs.Prelude.{◌≡◌, List}
+use Rattle.cell_core.specs.declared.cell.Cell.{Cell}
+use Rattle.plan_types.specs.declared.aggregate.AggName.{AggName}
+use Rattle.agg_core.specs.Standing.{ArePairs}
+
+-- the rows are the pairs
+pub record AreRowsOf (name : AggName) (rows pairs : List (Cell × Cell)) : Type 0 where
+  pub are_pairs : ArePairs name pairs
+  pub rows_are : rows ≡ pairs

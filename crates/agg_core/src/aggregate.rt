@@ -1,0 +1,43 @@
+ghost use Rattle.std.specs.Prelude.{◌≡◌, List, Some, IfOk, OnOk, OnErr};
+ghost use Rattle.cell_core.specs.declared.cell.Cell.{Cell};
+ghost use Rattle.plan_types.specs.declared.aggregate.AggName.{AggName};
+ghost use Rattle.agg_core.specs.Pairs.{cell_at, cells_of, with_pair, without_key};
+ghost use Rattle.agg_core.specs.Aggregates.{aggregate};
+ghost use Rattle.agg_core.specs.Standing.{ArePairs, CanAdd};
+
+use cell_core::{Cell, Memory, Value};
+
+/// What keeps one aggregate of a group's column, while rows come and go.
+///
+/// It stands for the list of the group's pairs of a row key and a cell, ascending by row key:
+/// `stands_for` says for which lists. One that keeps a sum forgets its rows, so it stands for each
+/// list that it may have come from, and `value` answers for all of them. `name` says which aggregate
+/// it is.
+pub trait Aggregate {
+    ghost name: { AggName };
+
+    ghost stands_for: { Self → List (Cell × Cell) → Type 0 };
+
+    /// Takes a row in. The row's key isn't there yet, there are fewer than 65,536 rows, and the cell
+    /// is null or of a type that the aggregate takes, an integer at most 2^53-1 away from 0. After want
+    /// of memory all is as before.
+    fn add(&mut self, key: &Cell, cell: &Cell) -> Result<(), Memory>
+        requires { (pairs : List (Cell × Cell)) × stands_for self.old pairs × CanAdd name pairs key.now cell.now }
+        ensures ok { OnOk result ((pairs : List (Cell × Cell)) → stands_for self.old pairs
+            → CanAdd name pairs key.now cell.now → stands_for self.new (with_pair pairs key.now cell.now)) }
+        ensures err { OnErr result (self.new ≡ self.old) };
+
+    /// Takes a row out again, whose key is there with that cell. The call takes no memory.
+    fn take_off(&mut self, key: &Cell, cell: &Cell)
+        requires { (pairs : List (Cell × Cell)) × stands_for self.old pairs × (cell_at pairs key.now ≡ Some cell.now) }
+        ensures { (pairs : List (Cell × Cell)) → stands_for self.old pairs
+            → cell_at pairs key.now ≡ Some cell.now → stands_for self.new (without_key pairs key.now) };
+
+    /// The aggregate of the cells in the order of row keys, and none where it is null.
+    fn value(&self) -> Result<Option<Value>, Memory>
+        ensures { IfOk result (λ value. (pairs : List (Cell × Cell)) → stands_for self.now pairs
+            → value ≡ aggregate name (cells_of pairs)) };
+
+    /// The lists that an aggregate stands for ascend by row key, and are not too long.
+    ghost pairs_of: { (it : Self) (pairs : List (Cell × Cell)) → stands_for it pairs → ArePairs name pairs };
+}

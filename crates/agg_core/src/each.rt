@@ -1,0 +1,13 @@
+pub mod abs_sum;
+pub mod count;
+pub mod distinct_count;
+pub mod dominant;
+pub mod first;
+pub mod last;
+pub mod max;
+pub mod mean;
+pub mod median;
+pub mod min;
+pub mod sum;
+pub mod sum_abs;
+pub mod unique;

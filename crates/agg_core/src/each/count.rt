@@ -1,0 +1,42 @@
+ghost use Rattle.std.specs.Prelude.{[]};
+
+use crate::aggregate::Aggregate;
+use cell_core::{Cell, Memory, Value};
+
+/// The number of rows. Each call takes constant time.
+#[derive(Drop)]
+pub struct Count {
+    rows: u64,
+}
+
+impl Count {
+    pub fn make() -> Count
+        ensures { ⟦<Count as Aggregate>⟧.stands_for result [] }
+    {
+        Count { rows: 0 }
+    }
+}
+
+impl Aggregate for Count {
+    ghost use Rattle.plan_types.specs.declared.aggregate.AggName.TheVariants as name;
+    ghost use Rattle.agg_core.specs.Counting.{IsCountOf};
+
+    ghost name = { name.Count };
+
+    ghost stands_for = { λ it pairs. IsCountOf it.rows pairs };
+
+    fn add(&mut self, _key: &Cell, _cell: &Cell) -> Result<(), Memory> {
+        self.rows += 1;
+        Ok(())
+    }
+
+    fn take_off(&mut self, _key: &Cell, _cell: &Cell) {
+        self.rows -= 1;
+    }
+
+    fn value(&self) -> Result<Option<Value>, Memory> {
+        Ok(Some(Value::Whole(self.rows as i128)))
+    }
+
+    ghost pairs_of = { λ it pairs h. h.are_pairs };
+}

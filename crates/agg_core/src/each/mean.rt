@@ -1,0 +1,50 @@
+ghost use Rattle.std.specs.Prelude.{[]};
+ghost use Rattle.plan_types.specs.declared.aggregate.AggName.TheVariants as name;
+ghost use Rattle.agg_core.specs.Aggregates.{numbers};
+ghost use Rattle.agg_core.specs.Numbers.{IsTotalOf};
+
+use crate::aggregate::Aggregate;
+use crate::total::{Total, number_in};
+use cell_core::{Cell, Fraction, Memory, Value};
+
+/// The mean of the cells that aren't null, for both of its names, as a fraction in its lowest terms. `add` and
+/// `take_off` take constant time, `value` divides as Euclid's algorithm does, and no call takes memory.
+#[derive(Drop)]
+pub struct Mean {
+    total: Total,
+}
+
+impl Mean {
+    pub fn make() -> Mean
+        ensures { ⟦<Mean as Aggregate>⟧.stands_for result [] }
+    {
+        Mean {
+            total: Total::zero(),
+        }
+    }
+}
+
+impl Aggregate for Mean {
+    ghost name = { name.Mean };
+
+    ghost stands_for = { λ it pairs. IsTotalOf name.Mean numbers it.total.sum it.total.count pairs };
+
+    fn add(&mut self, _key: &Cell, cell: &Cell) -> Result<(), Memory> {
+        self.total.add(number_in(cell));
+        Ok(())
+    }
+
+    fn take_off(&mut self, _key: &Cell, cell: &Cell) {
+        self.total.take_off(number_in(cell));
+    }
+
+    fn value(&self) -> Result<Option<Value>, Memory> {
+        if self.total.count == 0 {
+            return Ok(None);
+        }
+        let mean = Fraction::reduced(self.total.sum, self.total.count as i128);
+        Ok(Some(Value::Fraction(mean)))
+    }
+
+    ghost pairs_of = { λ it pairs h. h.are_pairs };
+}

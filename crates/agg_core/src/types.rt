@@ -1,0 +1,54 @@
+ghost use Rattle.std.specs.Prelude.{◌≡◌};
+ghost use Rattle.agg_core.specs.Types.{default_aggregate, is_integer, result_type, takes};
+
+use cell_core::CellType;
+use plan_types::AggName;
+
+/// The type of an aggregate's values.
+#[derive(Clone, Copy, Debug, Drop, PartialEq, Eq)]
+pub enum ResultType {
+    /// Null, or a value of that type, where a sum or a count has any size.
+    Column(CellType),
+    /// Null, or a fraction.
+    Fraction,
+}
+
+/// Whether an aggregate takes columns of that type. Sums and means take integers alone.
+pub fn takes(name: AggName, kind: CellType) -> bool
+    ensures { result ≡ takes name kind }
+{
+    match name {
+        AggName::Sum | AggName::AbsSum | AggName::SumAbs | AggName::Mean | AggName::Avg => {
+            is_integer(kind)
+        }
+        _ => true,
+    }
+}
+
+fn is_integer(kind: CellType) -> bool
+    ensures { result ≡ is_integer kind }
+{
+    matches!(kind, CellType::Integer)
+}
+
+/// The type of an aggregate's values over a column of that type.
+pub fn result_type(name: AggName, kind: CellType) -> ResultType
+    ensures { result ≡ result_type name kind }
+{
+    match name {
+        AggName::Sum | AggName::AbsSum | AggName::SumAbs => ResultType::Column(CellType::Integer),
+        AggName::Count | AggName::DistinctCount => ResultType::Column(CellType::Integer),
+        AggName::Mean | AggName::Avg => ResultType::Fraction,
+        _ => ResultType::Column(kind),
+    }
+}
+
+/// The aggregate of a column that none is named for: the sum of integers, and else the count.
+pub fn default_aggregate(kind: CellType) -> AggName
+    ensures { result ≡ default_aggregate kind }
+{
+    if is_integer(kind) {
+        return AggName::Sum;
+    }
+    AggName::Count
+}
