@@ -1,11 +1,12 @@
 -- A reply has no float in it.
-use Rattle.std.proofs.Common.{◌≡◌, ℕ, ℤ, pos, negsuc, List, [], ◌∷◌, Bool, true, false, ◌||◌, cond, map, Ordering, Less, Equal, Greater, nat_cmp, codes, refl}
+use Rattle.std.proofs.Common.{◌≡◌, ℕ, ℤ, pos, negsuc, List, [], ◌∷◌, Option, Some, None, Bool, true, false, ◌||◌, cond, map, Ordering, Less, Equal, Greater, nat_cmp, codes, refl}
 use Rattle.std.specs.Cmp.Lexicographic.{slice_cmp}
 use Rattle.std.specs.Fmt.{signed_decimal}
 use Rattle.std.specs.Ordering.{match_ordering}
 use Rattle.serde_json.specs.Data.{Data, string, Members, no_members, member, put}
 use Rattle.serde_json.specs.View.{items_of}
 use Rattle.serde_json.specs.Written.{has_float, items_have_float, members_have_float}
+use Rattle.cal_units.specs.Calendar.{is_day}
 use Rattle.cal_units.specs.DateText.{date_text}
 use Rattle.value_core.specs.declared.value.Value.{Value}
 use Rattle.value_core.specs.declared.value.Value.TheVariants as value
@@ -13,6 +14,8 @@ use Rattle.cell_core.specs.declared.cell.Cell.{Cell}
 use Rattle.cell_core.specs.declared.cell.Cell.TheVariants as cell
 use Rattle.cell_core.specs.declared.schema.Numbers.{Numbers}
 use Rattle.cell_core.specs.declared.schema.Numbers.TheVariants as numbers
+use Rattle.cell_core.specs.declared.schema.ColumnWords.{ColumnWords}
+use Rattle.row_batch.specs.Checks.{is_integer}
 use Rattle.view_types.specs.declared.key.ViewKey.{ViewKey}
 use Rattle.view_types.specs.declared.key.ViewKey.TheVariants as key
 use Rattle.view_types.specs.declared.shown.HeaderColumn.{HeaderColumn}
@@ -20,7 +23,7 @@ use Rattle.view_types.specs.declared.shown.ShownRow.{ShownRow}
 use Rattle.frame_types.specs.declared.reply.Body.{Body}
 use Rattle.frame_types.specs.declared.reply.Body.TheVariants as body
 use Rattle.frame_types.specs.declared.reply.Reply.{Reply}
-use Rattle.frame_json.specs.Replies.{integer, pair, triple, tagged, is_exact, whole_data, has_date, day_data, date_data, moment_data, value_data, part_data, column_data, header_data, with_cells, cells_data, keyed_data, row_data, rows_data, lost_view, lost_data, at_items, body_data, reply_data}
+use Rattle.frame_json.specs.Replies.{integer, pair, triple, tagged, whole_data, day_data, date_data, moment_data, value_data, part_data, column_data, header_data, with_cells, cells_data, keyed_data, row_data, rows_data, lost_view, lost_data, at_items, words_data, info_reply, body_data, reply_data}
 
 abbrev Free : Data → Type 0
 Free d = has_float d ≡ false
@@ -49,14 +52,14 @@ whole_by true z = integer-free z
 whole_by false z = refl
 
 whole-free : (z : ℤ) → Free (whole_data z)
-whole-free z = whole_by (is_exact z) z
+whole-free z = whole_by (is_integer z) z
 
 day_by : (b : Bool) (day : ℤ) → Free (cond b (string (date_text day)) (integer day))
 day_by true day = refl
 day_by false day = integer-free day
 
 date-free : (day : ℤ) → Free (date_data day)
-date-free day = pair-free (string (codes "d")) (day_data day) refl (day_by (has_date day) day)
+date-free day = pair-free (string (codes "d")) (day_data day) refl (day_by (is_day day) day)
 
 moment-free : (ms : ℤ) → Free (moment_data ms)
 moment-free ms = pair-free (string (codes "t")) (integer ms) refl (integer-free ms)
@@ -123,6 +126,15 @@ at-free numbers.Zero = refl
 at-free (numbers.One a) = refl
 at-free (numbers.Two a b) = refl
 
+words-free : (c : ColumnWords) → Free (words_data c)
+words-free c = refl
+
+info-free : (n version : ℕ) (columns : List ColumnWords) (index : Option (List ℕ)) (limit : Option ℕ) (size waiting : ℕ) → Free (info_reply n version columns index limit size waiting)
+info-free n version columns None None size waiting = rw (items-free words_data words-free columns)
+info-free n version columns None (Some l) size waiting = rw (items-free words_data words-free columns)
+info-free n version columns (Some i) None size waiting = rw (items-free words_data words-free columns)
+info-free n version columns (Some i) (Some l) size waiting = rw (items-free words_data words-free columns)
+
 body-free : (n version : ℕ) (b : Body) → Free (body_data n version b)
 body-free n version body.Table = refl
 body-free n version (body.Port port) = refl
@@ -131,6 +143,10 @@ body-free n version (body.Applied port seq) = refl
 body-free n version (body.AppliedLosing lost port seq) = rw (lost-free lost)
 body-free n version (body.Opened edit shown view) = rw (header-free shown.header, rows-free shown.rows)
 body-free n version (body.Rows edit first shown size view) = rw (header-free shown.header, rows-free shown.rows)
+body-free n version (body.PortClosed port) = refl
+body-free n version (body.Closed view) = refl
+body-free n version (body.Left closed) = refl
+body-free n version (body.Info columns index limit size waiting) = info-free n version columns index limit size waiting
 body-free n version (body.Refused r) = rw (at-free r.at)
 
 pub has_float-reply_data : (r : Reply) → has_float (reply_data r) ≡ false

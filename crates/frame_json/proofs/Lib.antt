@@ -1,6 +1,5 @@
 mod Texts
 mod TwoRows
-mod Members
 mod Columns
 mod Dates
 mod Floats

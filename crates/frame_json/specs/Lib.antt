@@ -1,3 +1,3 @@
-pub mod RawOf
+pub mod Parsing
 pub mod Requests
 pub mod Replies

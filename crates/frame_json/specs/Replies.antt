@@ -1,10 +1,11 @@
 -- The text of a reply: the compact JSON of an object whose members stand in byte order of their names.
-use Rattle.std.specs.Prelude.{ℕ, ◌^◌, ◌-◌, ℤ, pos, negsuc, List, codes, map, fold, nat_lt, if◌then◌else◌, Bool, neg_ℤ, int_le, ◌&&◌}
+use Rattle.std.specs.Prelude.{ℕ, ℤ, List, codes, map, fold, if◌then◌else◌, Bool, Option, Some, None, option_map}
 use Rattle.std.specs.Fmt.{signed_decimal}
 use Rattle.serde_json.specs.Data.{unsigned, Data, null, boolean, number, string, array, object, Items, no_items, item, Members, no_members, member, put}
 use Rattle.serde_json.specs.Find.{of_integer}
 use Rattle.serde_json.specs.View.{items_of}
 use Rattle.serde_json.specs.Written.{compact_text}
+use Rattle.cal_units.specs.Calendar.{is_day}
 use Rattle.cal_units.specs.DateText.{date_text}
 use Rattle.value_core.specs.declared.fraction.Fraction.{Fraction}
 use Rattle.value_core.specs.declared.value.Value.{Value}
@@ -13,6 +14,8 @@ use Rattle.cell_core.specs.declared.cell.Cell.{Cell}
 use Rattle.cell_core.specs.declared.cell.Cell.TheVariants as cell
 use Rattle.cell_core.specs.declared.schema.Numbers.{Numbers}
 use Rattle.cell_core.specs.declared.schema.Numbers.TheVariants as numbers
+use Rattle.cell_core.specs.declared.schema.ColumnWords.{ColumnWords}
+use Rattle.row_batch.specs.Checks.{is_integer}
 use Rattle.view_types.specs.Types.{shown_type_name}
 use Rattle.view_types.specs.declared.key.ViewKey.{ViewKey}
 use Rattle.view_types.specs.declared.key.ViewKey.TheVariants as key
@@ -42,25 +45,16 @@ triple a b c = array (item a (item b (item c no_items)))
 abbrev pub tagged : List ℕ → Data → Data
 tagged letter d = pair (string letter) d
 
--- from -(2^53-1) to 2^53-1
-abbrev pub is_exact : ℤ → Bool
-is_exact (pos n) = nat_lt n (2 ^ 53)
-is_exact (negsuc n) = nat_lt n (2 ^ 53 - 1)
-
 -- another whole number is `["i","digits"]`
 abbrev pub whole_data : ℤ → Data
-whole_data z = if is_exact z then integer z else tagged (codes "i") (string (signed_decimal z))
+whole_data z = if is_integer z then integer z else tagged (codes "i") (string (signed_decimal z))
 
 abbrev pub fraction_data : Fraction → Data
 fraction_data f = pair (whole_data f.n) (whole_data f.d)
 
--- from 0001-01-01 to 9999-12-31
-abbrev pub has_date : ℤ → Bool
-has_date day = int_le (neg_ℤ (pos 719162)) day && int_le day (pos 2932896)
-
 -- `YYYY-MM-DD`; a day without such a text, which no table holds, is written as its number
 abbrev pub day_data : ℤ → Data
-day_data day = if has_date day then string (date_text day) else integer day
+day_data day = if is_day day then string (date_text day) else integer day
 
 abbrev pub date_data : ℤ → Data
 date_data day = tagged (codes "d") (day_data day)
@@ -137,9 +131,9 @@ at_items (numbers.Two a b) = item (natural a) (item (natural b) no_items)
 abbrev pub table_reply : ℕ → ℕ → Data
 table_reply n version = object (member (codes "is") (string (codes "table")) (member (codes "n") (natural n) (member (codes "version") (natural version) no_members)))
 
-abbrev pub port_reply : ℕ → ℕ → ℕ → Data
-port_reply n version port =
-    object (member (codes "is") (string (codes "port")) (member (codes "n") (natural n) (member (codes "port") (natural port)
+abbrev pub port_reply : List ℕ → ℕ → ℕ → ℕ → Data
+port_reply is n version port =
+    object (member (codes "is") (string is) (member (codes "n") (natural n) (member (codes "port") (natural port)
     (member (codes "version") (natural version) no_members))))
 
 abbrev pub batch_reply : List ℕ → ℕ → ℕ → ℕ → ℕ → Data
@@ -164,6 +158,34 @@ rows_reply n version edit first header rows size view =
     (member (codes "is") (string (codes "rows")) (member (codes "n") (natural n) (member (codes "rows") rows (member (codes "size") (natural size)
     (member (codes "version") (natural version) (member (codes "view") (natural view) no_members)))))))))
 
+abbrev pub closed_reply : ℕ → ℕ → ℕ → Data
+closed_reply n version view =
+    object (member (codes "is") (string (codes "closed")) (member (codes "n") (natural n)
+    (member (codes "version") (natural version) (member (codes "view") (natural view) no_members))))
+
+abbrev pub left_reply : ℕ → ℕ → ℕ → Data
+left_reply n version closed =
+    object (member (codes "closed") (natural closed) (member (codes "is") (string (codes "left")) (member (codes "n") (natural n)
+    (member (codes "version") (natural version) no_members))))
+
+-- `[name, type name]`
+abbrev pub words_data : ColumnWords → Data
+words_data c = pair (string c.name) (string c.kind)
+
+-- a member that is left out where there is none
+abbrev pub with_member : List ℕ → Option Data → Members → Members
+with_member name None ms = ms
+with_member name (Some d) ms = member name d ms
+
+abbrev pub info_reply : ℕ → ℕ → List ColumnWords → Option (List ℕ) → Option ℕ → ℕ → ℕ → Data
+info_reply n version columns index limit size waiting =
+    object (member (codes "columns") (array (items_of (map words_data columns)))
+    (with_member (codes "index") (option_map (λ name. string name) index)
+    (member (codes "is") (string (codes "info"))
+    (with_member (codes "limit") (option_map natural limit)
+    (member (codes "n") (natural n) (member (codes "size") (natural size) (member (codes "version") (natural version)
+    (member (codes "waiting") (natural waiting) no_members))))))))
+
 abbrev pub refused_reply : ℕ → ℕ → Refusal → Data
 refused_reply n version r =
     object (member (codes "at") (array (at_items r.at)) (member (codes "cause") (string (cause_text r.cause)) (member (codes "code") (natural r.code)
@@ -171,12 +193,16 @@ refused_reply n version r =
 
 abbrev pub body_data : ℕ → ℕ → Body → Data
 body_data n version body.Table = table_reply n version
-body_data n version (body.Port port) = port_reply n version port
+body_data n version (body.Port port) = port_reply (codes "port") n version port
+body_data n version (body.PortClosed port) = port_reply (codes "port_closed") n version port
 body_data n version (body.Queued port seq) = batch_reply (codes "queued") n version port seq
 body_data n version (body.Applied port seq) = batch_reply (codes "applied") n version port seq
 body_data n version (body.AppliedLosing lost port seq) = losing_reply n version (lost_data lost) port seq
 body_data n version (body.Opened edit shown view) = opened_reply n version edit (header_data shown.header) (rows_data shown.rows) view
 body_data n version (body.Rows edit first shown size view) = rows_reply n version edit first (header_data shown.header) (rows_data shown.rows) size view
+body_data n version (body.Closed view) = closed_reply n version view
+body_data n version (body.Left closed) = left_reply n version closed
+body_data n version (body.Info columns index limit size waiting) = info_reply n version columns index limit size waiting
 body_data n version (body.Refused r) = refused_reply n version r
 
 abbrev pub reply_data : Reply → Data

@@ -1,10 +1,11 @@
-ghost use Rattle.std.specs.Prelude.{◌≡◌, IfOk};
-ghost use Rattle.serde_json.specs.View.{view, items_view};
+ghost use Rattle.std.specs.Prelude.{◌≡◌, IfOk, map, option_map};
+ghost use Rattle.serde_json.specs.Data.{array};
+ghost use Rattle.serde_json.specs.View.{view, items_of, items_view};
 ghost use Rattle.frame_types.specs.Refusals.{cause_text};
-ghost use Rattle.frame_json.specs.Replies.{lost_view, lost_data, at_items, table_reply, port_reply, batch_reply, losing_reply, opened_reply, rows_reply, refused_reply, reply_data};
+ghost use Rattle.frame_json.specs.Replies.{lost_view, lost_data, at_items, table_reply, port_reply, batch_reply, losing_reply, opened_reply, rows_reply, closed_reply, left_reply, words_data, info_reply, refused_reply, reply_data};
 
 use crate::show::{header, pair, rows, words};
-use cell_core::{Memory, Numbers};
+use cell_core::{ColumnWords, Memory, Numbers, Text};
 use frame_types::{Body, Cause, Refusal, Reply};
 use serde_json::{Map, Value, json, put};
 use std::alloc::Global;
@@ -13,11 +14,41 @@ fn cause_name(cause: Cause) -> &'static str
     ensures { result.now ≡ cause_text cause }
 {
     match cause {
+        Cause::Long => "long",
         Cause::Json => "json",
+        Cause::Object => "object",
+        Cause::Op => "op",
+        Cause::Member => "member",
         Cause::Unbuilt => "unbuilt",
+        Cause::TableSet => "table set",
+        Cause::NoColumns => "no columns",
+        Cause::TooManyColumns => "too many columns",
+        Cause::NameLength => "name length",
+        Cause::BadType => "type",
+        Cause::Twice => "twice",
+        Cause::IndexAndLimit => "index and limit",
+        Cause::Index => "index",
+        Cause::Limit => "limit",
+        Cause::TooManyPorts => "too many ports",
+        Cause::NoPort => "no port",
+        Cause::PortClosed => "port closed",
+        Cause::Shape => "shape",
+        Cause::Csv => "csv",
+        Cause::Header => "header",
+        Cause::Unknown => "unknown",
+        Cause::Length => "length",
+        Cause::Rows => "rows",
+        Cause::Date => "date",
+        Cause::Range => "range",
+        Cause::NotIndexed => "not indexed",
+        Cause::PortFull => "port full",
+        Cause::TableFull => "table full",
         Cause::HistoryFull => "history full",
         Cause::Empty => "empty",
+        Cause::TooManyViews => "too many views",
+        Cause::NoView => "no view",
         Cause::ViewLost => "view lost",
+        Cause::Window => "window",
         Cause::NoTable => "no table",
         Cause::Memory => "memory",
     }
@@ -60,10 +91,69 @@ fn table(alloc: Global, n: u64, version: u64) -> Result<Value, Memory>
     Ok(json!(in alloc; {"is": "table", "n": n, "version": version})?)
 }
 
-fn port(alloc: Global, n: u64, version: u64, port: u64) -> Result<Value, Memory>
-    ensures { IfOk result (λ v. view v ≡ port_reply n version port) }
+fn port(alloc: Global, is: &str, n: u64, version: u64, port: u64) -> Result<Value, Memory>
+    ensures { IfOk result (λ v. view v ≡ port_reply is.now n version port) }
 {
-    Ok(json!(in alloc; {"is": "port", "n": n, "port": port, "version": version})?)
+    Ok(json!(in alloc; {"is": is, "n": n, "port": port, "version": version})?)
+}
+
+fn closed(alloc: Global, n: u64, version: u64, view_number: u64) -> Result<Value, Memory>
+    ensures { IfOk result (λ v. view v ≡ closed_reply n version view_number) }
+{
+    Ok(json!(in alloc; {"is": "closed", "n": n, "version": version, "view": view_number})?)
+}
+
+fn left(alloc: Global, n: u64, version: u64, closed: u64) -> Result<Value, Memory>
+    ensures { IfOk result (λ v. view v ≡ left_reply n version closed) }
+{
+    Ok(json!(in alloc; {"closed": closed, "is": "left", "n": n, "version": version})?)
+}
+
+fn column_words(alloc: Global, column: &ColumnWords) -> Result<Value, Memory>
+    ensures { IfOk result (λ v. view v ≡ words_data column.now) }
+{
+    let name = words(alloc, column.name.as_str())?;
+    let kind = words(alloc, column.kind.as_str())?;
+    pair(alloc, name, kind)
+}
+
+fn column_list(alloc: Global, columns: &[ColumnWords]) -> Result<Value, Memory>
+    ensures { IfOk result (λ v. view v ≡ array (items_of (map words_data columns.now))) }
+{
+    let mut found = Vec::new(alloc);
+    for column in columns {
+        found.push(column_words(alloc, column)?)?;
+    }
+    Ok(Value::Array(found))
+}
+
+fn info(
+    alloc: Global,
+    n: u64,
+    version: u64,
+    columns: &[ColumnWords],
+    index: Option<&Text>,
+    limit: Option<u64>,
+    size: u64,
+    waiting: u64,
+) -> Result<Value, Memory>
+    ensures { IfOk result (λ v. view v
+        ≡ info_reply n version columns.now (option_map (λ t. t.now) index.entry) limit size waiting) }
+{
+    let mut found = Map::new(alloc);
+    put(&mut found, alloc, "columns", column_list(alloc, columns)?)?;
+    if let Some(name) = index {
+        put(&mut found, alloc, "index", words(alloc, name.as_str())?)?;
+    }
+    put(&mut found, alloc, "is", words(alloc, "info")?)?;
+    if let Some(limit) = limit {
+        put(&mut found, alloc, "limit", Value::from(limit))?;
+    }
+    put(&mut found, alloc, "n", Value::from(n))?;
+    put(&mut found, alloc, "size", Value::from(size))?;
+    put(&mut found, alloc, "version", Value::from(version))?;
+    put(&mut found, alloc, "waiting", Value::from(waiting))?;
+    Ok(Value::Object(found))
 }
 
 fn batch(
@@ -168,7 +258,8 @@ pub(crate) fn value_of_reply(alloc: Global, reply: &Reply) -> Result<Value, Memo
     let version = reply.version;
     match &reply.body {
         Body::Table => table(alloc, n, version),
-        Body::Port { port: number } => port(alloc, n, version, *number),
+        Body::Port { port: number } => port(alloc, "port", n, version, *number),
+        Body::PortClosed { port: number } => port(alloc, "port_closed", n, version, *number),
         Body::Queued { port, seq } => batch(alloc, "queued", n, version, *port, *seq),
         Body::Applied { port, seq } => batch(alloc, "applied", n, version, *port, *seq),
         Body::AppliedLosing { lost, port, seq } => {
@@ -190,6 +281,27 @@ pub(crate) fn value_of_reply(alloc: Global, reply: &Reply) -> Result<Value, Memo
             let header = header(alloc, shown.header.as_slice())?;
             let rows = rows(alloc, shown.rows.as_slice())?;
             shown_rows(alloc, n, version, *edit, *from, header, rows, *size, *view)
+        }
+        Body::Closed { view } => closed(alloc, n, version, *view),
+        Body::Left { closed } => left(alloc, n, version, *closed),
+        Body::Info {
+            columns,
+            index,
+            limit,
+            size,
+            waiting,
+        } => {
+            let columns = columns.as_slice();
+            info(
+                alloc,
+                n,
+                version,
+                columns,
+                index.as_ref(),
+                *limit,
+                *size,
+                *waiting,
+            )
         }
         Body::Refused(refusal) => refused(alloc, n, version, *refusal),
     }

@@ -7,16 +7,16 @@
 #![tactic(auto)]
 
 mod build;
-mod convert;
+mod forms;
 mod member;
 mod op;
 mod parse;
+mod path;
 mod read;
 mod show;
 #[cfg(test)]
 mod tests;
 mod write;
 
-pub use convert::raw_of;
 pub use read::read_request;
 pub use write::write_reply;

@@ -1,8 +1,7 @@
-ghost use Rattle.std.specs.Prelude.{◌≡◌, IfOk, codes, option_map};
-ghost use Rattle.std.specs.List.{list_all};
-ghost use Rattle.serde_json.specs.Find.{get_member};
+ghost use Rattle.std.specs.Prelude.{◌≡◌, ◌<◌, IfOk, IfSome, codes, option_map};
+ghost use Rattle.serde_json.specs.Find.{get_member, as_str};
 ghost use Rattle.serde_json.specs.View.{view, items_view, members_view};
-ghost use Rattle.frame_json.specs.Requests.{natural_of, natural, words, bound_of, words_of, pair_of, column_of, columns_of, built, is_built, columns};
+ghost use Rattle.frame_json.specs.Requests.{whole_of, natural_of, natural, words, flag_of, optional, bound_of, session_of, words_of, pair_of, column_of, columns_of, columns};
 
 use cell_core::{ColumnWords, Columns, Listed, Memory, Text};
 use serde_json::{Map, Value};
@@ -10,6 +9,9 @@ use std::alloc::Global;
 
 /// The greatest `bound`, which is also the one that is left out.
 const MAX_BOUND: u64 = 65536;
+
+/// The number of sessions that a request may name.
+const SESSIONS: u64 = 64;
 
 /// The members of an object.
 pub(crate) type Members = Map<String, Value>;
@@ -28,6 +30,44 @@ pub(crate) fn taken(members: Members, name: &str) -> Option<Value>
 {
     let mut members = members;
     members.remove(name)
+}
+
+/// A whole number that may be left out.
+pub(crate) fn whole_if_given(members: &Members, name: &str) -> Option<Option<i64>>
+    ensures { result ≡ optional whole_of (get_member name.now (members_view members.now.entries)) }
+{
+    match member(members, name) {
+        None => Some(None),
+        Some(value) => Some(Some(value.as_i64()?)),
+    }
+}
+
+/// A flag that may be left out.
+pub(crate) fn flag_if_given(members: &Members, name: &str) -> Option<Option<bool>>
+    ensures { result ≡ optional flag_of (get_member name.now (members_view members.now.entries)) }
+{
+    match member(members, name) {
+        None => Some(None),
+        Some(value) => Some(Some(value.as_bool()?)),
+    }
+}
+
+/// A text that may be left out.
+pub(crate) fn words_if_given(
+    alloc: Global,
+    members: &Members,
+    name: &str,
+) -> Result<Option<Option<Text>>, Memory>
+    ensures { IfOk result (λ found. found
+        ≡ optional as_str (get_member name.now (members_view members.now.entries))) }
+{
+    let Some(value) = member(members, name) else {
+        return Ok(Some(None));
+    };
+    match value.as_str() {
+        Some(text) => Ok(Some(Some(Text::from_str(alloc, text)?))),
+        None => Ok(None),
+    }
 }
 
 /// A whole number that is at least 0.
@@ -54,6 +94,22 @@ pub(crate) fn bound_at(members: &Members) -> Option<u64>
     let bound = natural_in(value)?;
     if bound <= MAX_BOUND {
         Some(bound)
+    } else {
+        None
+    }
+}
+
+/// The session that asks, which a script may name.
+pub(crate) fn session_at(members: &Members) -> Option<u32>
+    ensures session { result ≡ session_of (get_member (codes "session") (members_view members.now.entries)) }
+    ensures within { IfSome result (λ session. session < 64) }
+{
+    let Some(value) = member(members, "session") else {
+        return Some(0);
+    };
+    let session = natural_in(value)?;
+    if session < SESSIONS {
+        Some(session as u32)
     } else {
         None
     }
@@ -109,33 +165,12 @@ fn columns_in(alloc: Global, values: &[Value]) -> Result<Option<Columns>, Memory
     Ok(Some(Listed::from_vec(found)))
 }
 
-fn are_built(columns: &[ColumnWords]) -> bool
-    ensures { result ≡ list_all is_built columns.now }
-{
-    columns
-        .iter()
-        .all(|column| column.kind.as_str() == "integer")
-}
-
-fn if_built(columns: Columns) -> Option<Columns>
-    ensures { result ≡ built columns }
-{
-    if are_built(columns.as_slice()) {
-        Some(columns)
-    } else {
-        None
-    }
-}
-
-/// The columns of a table, each of a type that is built.
+/// The columns of a table.
 pub(crate) fn columns_at(alloc: Global, members: &Members) -> Result<Option<Columns>, Memory>
     ensures { IfOk result (λ found. found ≡ columns (members_view members.now.entries)) }
 {
     let Some(items) = member(members, "columns").and_then(Value::as_array) else {
         return Ok(None);
     };
-    match columns_in(alloc, items.as_slice())? {
-        Some(columns) => Ok(if_built(columns)),
-        None => Ok(None),
-    }
+    columns_in(alloc, items.as_slice())
 }

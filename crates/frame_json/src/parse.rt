@@ -1,6 +1,6 @@
 ghost use Rattle.std.specs.Prelude.{◌≡◌, IfOk, option_map};
 ghost use Rattle.serde_json.specs.View.{view};
-ghost use Rattle.frame_json.specs.RawOf.{json_of};
+ghost use Rattle.frame_json.specs.Parsing.{json_of};
 
 use cell_core::Memory;
 use serde_json::Value;

@@ -1,7 +1,7 @@
 ghost use Rattle.std.specs.Prelude.{◌≡◌, false, IfOk};
 
-use crate::{raw_of, read_request, write_reply};
-use cell_core::{Cell, Fraction, Listed, Memory, Numbers, Raw, Text, Value};
+use crate::{read_request, write_reply};
+use cell_core::{Cell, ColumnWords, Fraction, Listed, Memory, Numbers, Text, Value};
 use frame_types::{Body, Cause, FrameCause, Refusal, Reply, Request};
 use std::alloc::Global;
 use std::test::Fail;
@@ -9,65 +9,107 @@ use view_types::{
     Header, HeaderColumn, Shown, ShownCells, ShownRow, ShownRows, ShownType, ViewKey,
 };
 
-fn request(alloc: Global, line: &[u8]) -> Result<Request, Memory> {
-    Ok(read_request(alloc, line, true)?.request)
-}
-
 fn form(request: &Request) -> &'static str {
     match request {
         Request::Table { .. } => "table",
         Request::Port => "port",
+        Request::Leave => "leave",
+        Request::Info => "info",
         Request::Update { .. } => "update",
+        Request::Replace { .. } => "replace",
+        Request::Csv { .. } => "csv",
+        Request::Remove { .. } => "remove",
+        Request::Clear { .. } => "clear",
+        Request::ClosePort { .. } => "close_port",
         Request::Apply { .. } => "apply",
         Request::Open { .. } => "open",
         Request::Rows { .. } => "rows",
-        Request::Unread(FrameCause::Json) => "json",
-        Request::Unread(FrameCause::Unbuilt) => "unbuilt",
+        Request::Close { .. } => "close",
+        Request::Unread(cause) => cause_name(*cause),
     }
+}
+
+fn cause_name(cause: FrameCause) -> &'static str {
+    match cause {
+        FrameCause::Long => "long",
+        FrameCause::Json => "json",
+        FrameCause::Object => "object",
+        FrameCause::Op => "no op",
+        FrameCause::Member => "member",
+        FrameCause::Unbuilt => "unbuilt",
+    }
+}
+
+/// The form of a line, and the session that asks it.
+fn read(alloc: Global, line: &[u8], scripted: bool) -> Result<(&'static str, u32), Memory> {
+    let asked = read_request(alloc, line, scripted)?;
+    Ok((form(&asked.request), asked.session))
 }
 
 #[test]
 fn lines_are_read(rt: HostRuntime) -> Result<(), Fail> {
-    let lines: [(&[u8], &str); 20] = [
+    let lines: [(&[u8], &str); 32] = [
         (
-            b"{\"op\":\"table\",\"columns\":[[\"k\",\"integer\"],[\"v\",\"integer\"]],\"index\":\"k\"}",
+            b"{\"op\":\"table\",\"columns\":[[\"k\",\"integer\"],[\"v\",\"date\"]],\"index\":\"k\"}",
             "table",
         ),
+        (b"{\"op\":\"table\",\"columns\":[],\"limit\":-3}", "table"),
         (b"{\"op\":\"port\"}", "port"),
-        (
-            b"{\"op\":\"update\",\"port\":0,\"rows\":[{\"k\":2,\"v\":5},{\"k\":1,\"v\":7}]}",
-            "update",
-        ),
+        (b"{\"op\":\"update\",\"port\":0,\"rows\":null}", "update"),
+        (b"{\"op\":\"replace\",\"port\":0,\"rows\":{}}", "replace"),
+        (b"{\"op\":\"csv\",\"port\":0,\"text\":\"\"}", "csv"),
+        (b"{\"op\":\"remove\",\"port\":0,\"keys\":[null]}", "remove"),
+        (b"{\"op\":\"clear\",\"port\":1}", "clear"),
+        (b"{\"op\":\"close_port\",\"port\":1}", "close_port"),
         (b"{\"op\":\"apply\",\"port\":0}", "apply"),
-        (b"{\"op\":\"open\",\"plan\":{},\"bound\":10}", "open"),
+        (b"{\"op\":\"open\",\"plan\":7,\"bound\":65536}", "open"),
         (
             b" {\"to\":9,\"from\":0,\"view\":3,\"op\":\"rows\"} ",
             "rows",
         ),
-        (b"{\"op\":\"info\",\"op\":\"port\"}", "port"),
-        (b"{\"op\":\"info\"}", "unbuilt"),
-        (b"7", "unbuilt"),
-        (b"[]", "unbuilt"),
-        (b"{}", "unbuilt"),
-        (b"{\"op\":\"port\",\"x\":1}", "unbuilt"),
-        (b"{\"op\":\"port\",\"session\":0}", "unbuilt"),
-        (b"{\"op\":\"apply\",\"port\":-1}", "unbuilt"),
-        (b"{\"op\":\"apply\",\"port\":1.0}", "unbuilt"),
-        (b"{\"op\":\"open\",\"plan\":{},\"bound\":65537}", "unbuilt"),
+        (b"{\"op\":\"close\",\"view\":3}", "close"),
+        (b"{\"op\":\"leave\"}", "leave"),
+        (b"{\"op\":\"port\",\"op\":\"info\"}", "info"),
+        (b"7", "object"),
+        (b"[]", "object"),
+        (b"{}", "no op"),
+        (b"{\"op\":\"ports\",\"x\":1}", "no op"),
+        (b"{\"op\":\"port\",\"x\":1}", "member"),
+        (b"{\"op\":\"apply\"}", "member"),
+        (b"{\"op\":\"apply\",\"port\":-1}", "member"),
+        (b"{\"op\":\"apply\",\"port\":1.0}", "member"),
+        (b"{\"op\":\"open\",\"plan\":{},\"bound\":65537}", "member"),
+        (b"{\"op\":\"remove\",\"port\":0,\"keys\":{}}", "member"),
+        (b"{\"op\":\"take\",\"view\":0,\"wait\":1}", "member"),
+        (b"{\"op\":\"take\",\"view\":0,\"wait\":true}", "unbuilt"),
+        (b"{\"op\":\"depth\",\"view\":0,\"depth\":9}", "member"),
         (
-            b"{\"op\":\"table\",\"columns\":[[\"k\",\"integer\"]]}",
+            b"{\"op\":\"expand\",\"view\":0,\"path\":[null,true,-1,\"x\",[\"d\",\"2024-02-29\"],[\"t\",0]]}",
             "unbuilt",
         ),
         (
-            b"{\"op\":\"table\",\"columns\":[[\"k\",\"string\"]],\"index\":\"k\"}",
-            "unbuilt",
+            b"{\"op\":\"expand\",\"view\":0,\"path\":[[\"d\",\"2023-02-29\"]]}",
+            "member",
         ),
         (b"{\"op\":\"port\"", "json"),
         (b"\"\xff\"", "json"),
     ];
     for (line, want) in lines {
-        assert_eq!(rt; form(&request(rt.alloc(), line)?), want);
+        assert_eq!(rt; read(rt.alloc(), line, false)?, (want, 0));
     }
+    Ok(())
+}
+
+#[test]
+fn a_script_names_sessions(rt: HostRuntime) -> Result<(), Fail> {
+    let alloc = rt.alloc();
+    let last = b"{\"op\":\"port\",\"session\":63}";
+    assert_eq!(rt; read(alloc, last, true)?, ("port", 63));
+    assert_eq!(rt; read(alloc, last, false)?, ("member", 0));
+    let many = b"{\"op\":\"port\",\"session\":64}";
+    assert_eq!(rt; read(alloc, many, true)?, ("member", 0));
+    let unbuilt = b"{\"op\":\"take\",\"session\":3,\"view\":0}";
+    assert_eq!(rt; read(alloc, unbuilt, true)?, ("unbuilt", 0));
     Ok(())
 }
 
@@ -76,29 +118,9 @@ fn a_long_line_is_not_read(rt: HostRuntime) -> Result<(), Fail> {
     let alloc = rt.alloc();
     let mut line = b"{\"op\":\"port\"}".to_vec(alloc)?;
     line.resize(1048576, b' ')?;
-    assert_eq!(rt; form(&request(alloc, line.as_slice())?), "port");
+    assert_eq!(rt; read(alloc, line.as_slice(), true)?, ("port", 0));
     line.push(b'}')?;
-    assert_eq!(rt; form(&request(alloc, line.as_slice())?), "unbuilt");
-    Ok(())
-}
-
-fn whole(members: &Raw, name: &Text) -> Option<i64> {
-    let Raw::Map(members) = members else {
-        return None;
-    };
-    match members.get(name) {
-        Some(Raw::Int(number)) => Some(*number),
-        _ => None,
-    }
-}
-
-#[test]
-fn values_are_kept(rt: HostRuntime) -> Result<(), Fail> {
-    let alloc = rt.alloc();
-    let value = serde_json::Value::from_str(alloc, "{\"a\":7,\"b\":1.5,\"a\":-9}")?;
-    let raw = raw_of(alloc, value)?;
-    assert_eq!(rt; whole(&raw, &Text::from_str(alloc, "a")?), Some(-9));
-    assert_eq!(rt; whole(&raw, &Text::from_str(alloc, "b")?), None);
+    assert_eq!(rt; read(alloc, line.as_slice(), true)?, ("long", 0));
     Ok(())
 }
 
@@ -125,6 +147,37 @@ fn replies_are_written(rt: HostRuntime) -> Result<(), Fail> {
     assert_eq!(rt;
         applied.as_str(),
         "{\"is\":\"applied\",\"n\":4,\"port\":0,\"seq\":1,\"version\":1}"
+    );
+    Ok(())
+}
+
+#[test]
+fn what_the_table_is_told_of_is_written(rt: HostRuntime) -> Result<(), Fail> {
+    let alloc = rt.alloc();
+    let mut columns = Listed::new(alloc);
+    columns.push(ColumnWords {
+        name: Text::from_str(alloc, "k")?,
+        kind: Text::from_str(alloc, "integer")?,
+    })?;
+    let told = Body::Info {
+        columns,
+        index: Some(Text::from_str(alloc, "k")?),
+        limit: None,
+        size: 2,
+        waiting: 1,
+    };
+    let want =
+        "{\"columns\":[[\"k\",\"integer\"]],\"index\":\"k\",\"is\":\"info\",\"n\":3,\"size\":2,\"version\":1,\"waiting\":1}";
+    assert_eq!(rt; written(alloc, 3, 1, told)?.as_str(), want);
+    let left = written(alloc, 6, 1, Body::Left { closed: 1 })?;
+    assert_eq!(rt;
+        left.as_str(),
+        "{\"closed\":1,\"is\":\"left\",\"n\":6,\"version\":1}"
+    );
+    let closed = written(alloc, 7, 1, Body::Closed { view: 0 })?;
+    assert_eq!(rt;
+        closed.as_str(),
+        "{\"is\":\"closed\",\"n\":7,\"version\":1,\"view\":0}"
     );
     Ok(())
 }

@@ -11,19 +11,35 @@ use Rattle.frame_types.specs.declared.request.Asked.{Asked}
 pub data Ask : Type 0 where
   table : List ColumnWords → Option (List ℕ) → Option ℤ → Ask
   port : Ask
+  leave : Ask
+  info : Ask
   update : ℕ → RawData → Ask
+  replace : ℕ → RawData → Ask
+  csv : ℕ → List ℕ → Ask
+  remove : ℕ → RawData → Ask
+  clear : ℕ → Ask
+  close_port : ℕ → Ask
   apply : ℕ → Ask
   open_view : RawData → ℕ → Ask
   rows : ℕ → ℕ → ℕ → Ask
+  close : ℕ → Ask
   unread : FrameCause → Ask
 
 abbrev pub request_view : Request → Ask
 request_view (request.Table columns index limit) = table columns index limit
 request_view request.Port = port
+request_view request.Leave = leave
+request_view request.Info = info
 request_view (request.Update p r) = update p (raw_view r)
+request_view (request.Replace p r) = replace p (raw_view r)
+request_view (request.Csv p t) = csv p t
+request_view (request.Remove p keys) = remove p (raw_view keys)
+request_view (request.Clear p) = clear p
+request_view (request.ClosePort p) = close_port p
 request_view (request.Apply p) = apply p
 request_view (request.Open plan bound) = open_view (raw_view plan) bound
 request_view (request.Rows view first end) = rows view first end
+request_view (request.Close view) = close view
 request_view (request.Unread cause) = unread cause
 
 -- a request and the session that asks it

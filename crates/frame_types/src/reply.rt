@@ -1,14 +1,44 @@
-use cell_core::{Listed, Numbers};
+use cell_core::{Columns, Listed, Numbers, Text};
 use view_types::Shown;
 
-/// Why a request was refused.
+/// Why a request was refused, in a refusal's words. One cause can stand under several codes.
 #[derive(Clone, Copy, Debug, Drop, PartialEq, Eq)]
 pub enum Cause {
+    Long,
     Json,
+    Object,
+    Op,
+    Member,
     Unbuilt,
+    TableSet,
+    NoColumns,
+    TooManyColumns,
+    NameLength,
+    BadType,
+    Twice,
+    IndexAndLimit,
+    Index,
+    Limit,
+    TooManyPorts,
+    NoPort,
+    PortClosed,
+    Shape,
+    Csv,
+    Header,
+    Unknown,
+    Length,
+    Rows,
+    Date,
+    Range,
+    NotIndexed,
+    PortFull,
+    TableFull,
     HistoryFull,
     Empty,
+    TooManyViews,
+    NoView,
     ViewLost,
+    Window,
     NoTable,
     Memory,
 }
@@ -29,6 +59,9 @@ pub type Lost = Listed<(u32, u64)>;
 pub enum Body {
     Table,
     Port {
+        port: u64,
+    },
+    PortClosed {
         port: u64,
     },
     Queued {
@@ -56,6 +89,22 @@ pub enum Body {
         shown: Shown,
         size: u64,
         view: u64,
+    },
+    Closed {
+        view: u64,
+    },
+    /// How many held views the session's leaving closed.
+    Left {
+        closed: u64,
+    },
+    Info {
+        columns: Columns,
+        index: Option<Text>,
+        limit: Option<u64>,
+        /// The number of rows.
+        size: u64,
+        /// How many batches wait on all ports.
+        waiting: u64,
     },
     Refused(Refusal),
 }

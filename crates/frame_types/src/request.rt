@@ -1,10 +1,18 @@
 use cell_core::{Columns, Raw, Text};
 
-/// Why a line is no request.
+/// Why a line is no request. The causes are tested in this order.
 #[derive(Clone, Copy, Debug, Drop, PartialEq, Eq)]
 pub enum FrameCause {
+    /// The line has more than 1 MiB (1,048,576 bytes).
+    Long,
     /// The bytes are not one JSON text (RFC 8259) in UTF-8.
     Json,
+    /// The value is no object.
+    Object,
+    /// The member `op` is missing, or names no form.
+    Op,
+    /// A member is missing, unknown or not of its form.
+    Member,
     /// The form isn't built yet.
     Unbuilt,
 }
@@ -20,10 +28,38 @@ pub enum Request {
     },
     /// Makes a port.
     Port,
+    /// Closes all views that the session holds.
+    Leave,
+    /// Asks for the table's columns and what its rows are kept under, and for the numbers of rows and
+    /// of waiting batches.
+    Info,
     /// Queues an update on a port. The rows are judged against the schema.
     Update {
         port: u64,
         rows: Raw,
+    },
+    /// Queues an update that comes after the table was cleared.
+    Replace {
+        port: u64,
+        rows: Raw,
+    },
+    /// Queues an update whose rows are CSV text.
+    Csv {
+        port: u64,
+        text: Text,
+    },
+    /// Queues the removal of the rows of these keys.
+    Remove {
+        port: u64,
+        keys: Raw,
+    },
+    /// Queues the removal of all rows.
+    Clear {
+        port: u64,
+    },
+    /// Closes a port: it takes no more batches, and those that wait are still applied.
+    ClosePort {
+        port: u64,
     },
     /// Applies the oldest batch that waits on a port.
     Apply {
@@ -40,6 +76,10 @@ pub enum Request {
         view: u64,
         from: u64,
         to: u64,
+    },
+    /// Closes a view.
+    Close {
+        view: u64,
     },
     /// What could not be read as a request.
     Unread(FrameCause),

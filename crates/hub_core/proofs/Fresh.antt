@@ -1,17 +1,17 @@
 -- A machine that nothing was asked of.
-use Rattle.std.proofs.Common.{◌≡◌, ℕ, ◌<◌, List, [], length, get_or, None, refl, ap, arith}
+use Rattle.std.proofs.Common.{◌≡◌, ℕ, ◌<◌, [], length, get_or, None, refl, ap, arith}
 use Rattle.hub_core.specs.Holding.{Holds, HoldsPorts}
 use Rattle.hub_core.specs.Tables.{schema_in, store_in}
 use Rattle.hub_core.specs.declared.machine.Machine.{Machine}
-use Rattle.hub_core.specs.declared.queues.Queue.{Queue}
+use Rattle.hub_ports.specs.Ports.{PortsData, no_ports}
 
-no_ports : (queues : List Queue) → queues ≡ [] → HoldsPorts queues []
-no_ports queues none = rw none (record { count = refl; waiting = λ port. refl; taken = λ port. refl; within = λ port. omega arith })
+fresh_ports : (kept : PortsData) → kept ≡ no_ports → HoldsPorts kept []
+fresh_ports kept none = rw none (record { made = refl; live = refl; within = λ port. omega arith; unmade = λ port le. (refl, refl) })
 
-pub fresh_holds : (m : Machine) → m.table ≡ None → m.version ≡ 0 → m.queues.items ≡ [] → m.views.items ≡ []
+pub fresh_holds : (m : Machine) → m.table ≡ None → m.version ≡ 0 → m.ports ≡ no_ports → m.views.items ≡ []
     → length m.opened ≡ 66 → ((session : ℕ) → session < 66 → get_or m.opened session 0 ≡ 0) → Holds m []
-fresh_holds m table version queues views sessions opened = record {
+fresh_holds m table version none views sessions opened = record {
   table = record { schema = ap schema_in table; kept = ap store_in table; version = version; bare = λ _. refl };
-  queues = no_ports m.queues.items queues;
+  ports = fresh_ports m.ports none;
   views = record { views = views; sessions = sessions; opened = opened };
 }

@@ -1,10 +1,13 @@
+pub mod Checks
 pub mod Counting
-pub mod Deeds
 pub mod Fresh
+pub mod Live
+pub mod Numbers
 pub mod PortChanges
-pub mod QueueDeeds
+pub mod PortDeeds
 pub mod Refusing
-pub mod Room
+pub mod Rooms
 pub mod Stepping
 pub mod TableChanges
 pub mod ViewChanges
+pub mod ViewDeeds

@@ -10,7 +10,6 @@ use Rattle.hub_spec.specs.Answered.{Answered}
 use Rattle.hub_spec.specs.Histories.{may_choose, want}
 use Rattle.hub_core.specs.Holding.{Holds, DoesBy, with_step}
 use Rattle.hub_core.specs.declared.machine.Machine.{Machine}
-use Rattle.hub_core.proofs.ViewChanges.{and_false, same_views}
 
 -- what a call promises of an `Ok` holds where it gave no `Err`
 pub on_ok : {X E : Type 0} (P : Type 0) (r : Result X E) → is_err r ≡ false → OnOk r P → P
@@ -26,8 +25,8 @@ pub refused_holds : (m : Machine) (past : List Answered) (session : ℕ) (reques
     → Holds m past → Holds m (with_step session request n version (body.Refused why) past)
 refused_holds m past session request n version why h = record {
   table = record { schema = h.table.schema; kept = h.table.kept; version = h.table.version; bare = h.table.bare };
-  queues = record { count = h.queues.count; waiting = h.queues.waiting; taken = h.queues.taken; within = h.queues.within };
-  views = same_views m.views.items m.opened past _ h.views refl (λ s. and_false (eqb session s) _ _);
+  ports = record { made = h.ports.made; live = h.ports.live; within = h.ports.within; unmade = h.ports.unmade };
+  views = record { views = h.views.views; sessions = h.views.sessions; opened = h.views.opened };
 }
 
 -- a refusal other than for want of memory is the plain answer

@@ -1,20 +1,19 @@
 -- What a machine holds after a history.
-use Rattle.std.specs.Prelude.{◌≡◌, ℕ, ◌+◌, ◌<◌, ◌≤◌, nat_le, true, List, [], ◌∷◌, length, map, Option, Some, None, slice_index}
+use Rattle.std.specs.Prelude.{◌≡◌, ℕ, ◌<◌, ◌≤◌, true, false, List, [], ◌∷◌, length, filter, map, Option, Some, None, slice_index}
+use Rattle.hub_ports.specs.Ports.{PortsData}
 use Rattle.row_batch.specs.declared.batch.Batch.{Batch}
 use Rattle.frame_types.specs.Asks.{Ask}
 use Rattle.frame_types.specs.declared.reply.Body.{Body}
-use Rattle.frame_types.specs.declared.reply.Body.TheVariants as body
 use Rattle.hub_spec.specs.Answered.{Answered}
-use Rattle.hub_spec.specs.Answers.{first_of, refusals, granted, unbuilt, is_overfull}
+use Rattle.hub_spec.specs.Answers.{first_of, refusals, granted, queued, full_port, full_table_for}
 use Rattle.hub_spec.specs.HeldViews as held
 use Rattle.hub_spec.specs.Histories.{choice_of, chosen, may_choose}
 use Rattle.hub_spec.specs.Ports as ports
 use Rattle.hub_spec.specs.Rows as rows
+use Rattle.hub_core.specs.KeptPorts.{kept_port}
 use Rattle.hub_core.specs.KeptViews.{kept_view}
-use Rattle.hub_core.specs.Queues.{queue_at}
 use Rattle.hub_core.specs.Tables.{TableData, schema_in, store_in}
 use Rattle.hub_core.specs.declared.machine.Machine.{Machine}
-use Rattle.hub_core.specs.declared.queues.Queue.{Queue}
 use Rattle.hub_core.specs.declared.views.View.{View}
 
 pub record HoldsTable (table : Option TableData) (number : ℕ) (past : List Answered) : Type 0 where
@@ -23,11 +22,15 @@ pub record HoldsTable (table : Option TableData) (number : ℕ) (past : List Ans
   pub version : number ≡ ports.version past
   pub bare : ports.schema past ≡ None → ports.applied past ≡ []
 
-pub record HoldsPorts (queues : List Queue) (past : List Answered) : Type 0 where
-  pub count : length queues ≡ ports.ports past
-  pub waiting : (port : ℕ) → (queue_at queues port).waiting ≡ ports.waiting past port
-  pub taken : (port : ℕ) → (queue_at queues port).taken ≡ ports.taken past port
+-- nothing was done with a port of that number
+abbrev pub IsUnmade : List Answered → ℕ → Type 0
+IsUnmade past port = (ports.accepted past port ≡ []) × (ports.is_closed past port ≡ false)
+
+pub record HoldsPorts (kept : PortsData) (past : List Answered) : Type 0 where
+  pub made : kept.made ≡ ports.ports past
+  pub live : kept.live ≡ map (kept_port past) (filter (ports.is_used past) (ports.numbers_below (ports.ports past)))
   pub within : (port : ℕ) → ports.taken past port ≤ length (ports.accepted past port)
+  pub unmade : (port : ℕ) → ports.ports past ≤ port → IsUnmade past port
 
 pub record HoldsViews (kept : List View) (counts : List ℕ) (past : List Answered) : Type 0 where
   pub views : kept ≡ map kept_view (held.views past)
@@ -36,19 +39,20 @@ pub record HoldsViews (kept : List View) (counts : List ℕ) (past : List Answer
 
 pub record Holds (m : Machine) (past : List Answered) : Type 0 where
   pub table : HoldsTable m.table m.version past
-  pub queues : HoldsPorts m.queues.items past
+  pub ports : HoldsPorts m.ports past
   pub views : HoldsViews m.views.items m.opened past
 
 -- the answer where the history isn't full and memory is plenty
 abbrev pub plain_in : List Answered → ℕ → Ask → Body
 plain_in past session request = first_of (refusals past session request) (granted past session request)
 
--- the rest of the answer where a batch that was read is to be queued on a port that stands
-abbrev pub queue_answer : List Answered → ℕ → Batch → Body
-queue_answer past port batch =
-    first_of
-    (unbuilt (nat_le 64 (length (ports.waiting past port))) ∷ unbuilt (is_overfull past (Some batch)) ∷ [])
-    (body.Queued port (length (ports.accepted past port) + 1))
+-- the rest of the answer where a batch is to be queued on an open port
+abbrev pub put_answer : List Answered → ℕ → Body
+put_answer past port = first_of (full_port past port ∷ []) (queued past port)
+
+-- the same where the batch puts rows
+abbrev pub rows_answer : List Answered → ℕ → Batch → Body
+rows_answer past port batch = first_of (full_port past port ∷ full_table_for past (Some batch) ∷ []) (queued past port)
 
 -- the answer is the plain one under a choice that it names and that is allowed
 pub record IsGiven (past : List Answered) (request : Ask) (plain answer : Body) : Type 0 where

@@ -1,6 +1,8 @@
 pub mod Callers
 pub mod Holding
+pub mod KeptPorts
 pub mod KeptViews
-pub mod Queues
+pub mod Refusing
+pub mod Rooms
 pub mod Standing
 pub mod Tables

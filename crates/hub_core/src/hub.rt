@@ -1,4 +1,4 @@
-ghost use Rattle.std.specs.Prelude.{◌≡◌, List, [], ◌<◌, ◌≤◌, ◌^◌, IfOk};
+ghost use Rattle.std.specs.Prelude.{◌≡◌, List, [], length, ◌<◌, ◌≤◌, ◌^◌, IfOk};
 ghost use Rattle.frame_types.specs.Asks.{request_view};
 ghost use Rattle.hub_spec.specs.Histories.{Entry};
 ghost use Rattle.hub_spec.specs.Runs as runs;
@@ -7,7 +7,7 @@ ghost use Rattle.hub_core.specs.Standing.{StandsFor, limit_of};
 use crate::machine::{Machine, SESSIONS};
 use crate::refused;
 use cell_core::{Memory, Steps};
-use frame_types::{Reply, Request};
+use frame_types::{Body, Reply, Request};
 use std::alloc::Global;
 use std::sync::ledger::Ledger;
 
@@ -38,6 +38,14 @@ impl Hub {
         })
     }
 
+    /// The length of the history: how many requests were answered, the refusals for a full history
+    /// left out.
+    pub fn entries(&self) -> u64
+        ensures { (h : List Entry) → StandsFor self.now h → result ≡ length h }
+    {
+        self.entries
+    }
+
     /// Answers one request of a session, from 0 to 65, whole.
     ///
     /// The refusal for a full history changes nothing. Every other refusal changes the session's
@@ -53,7 +61,7 @@ impl Hub {
             return Reply {
                 n,
                 version: self.machine.version,
-                body: refused::history_full(self.limit),
+                body: Body::Refused(refused::history_full(self.limit)),
             };
         }
         self.entries += 1;

@@ -12,9 +12,10 @@ mod hub;
 mod local;
 mod machine;
 mod port_steps;
-mod queues;
 mod refused;
+mod room;
 mod table;
+mod told;
 mod view_steps;
 mod views;
 

@@ -47,6 +47,9 @@ impl Caller for LocalCaller {
     fn call(&mut self, session: u32, request: Request) -> Reply {
         counted_step::<Brand>(&mut self.hub, session, request, Blank::new(1))
     }
+
+    /// Nobody else asks this hub, so nothing is waited for.
+    fn await_change(&mut self, _session: u32, _view: u64) {}
 }
 
 /// Answers one request, with a counter of visits for this step alone.

@@ -1,14 +1,16 @@
-ghost use Rattle.std.specs.Prelude.{◌≡◌, ℕ, List, [], ◌<◌, ◌≤◌, ◌^◌, length};
+ghost use Rattle.std.specs.Prelude.{◌≡◌, ℕ, List, [], Some, None, IfOk, IfErr, ◌<◌, ◌≤◌, ◌^◌, length};
 ghost use Rattle.frame_types.specs.Asks as ask;
+ghost use Rattle.frame_types.specs.Refusals as refusals;
 ghost use Rattle.hub_spec.specs.Answered.{Answered};
 ghost use Rattle.hub_core.specs.Holding.{Holds, Does};
+ghost use Rattle.hub_core.specs.Refusing.{body_in};
 
-use crate::queues::Queue;
 use crate::refused;
 use crate::table::Table;
 use crate::views::View;
 use cell_core::{Columns, Schema, SchemaRefused, Text};
-use frame_types::{Body, Request};
+use frame_types::{Body, Refusal, Request};
+use hub_ports::Ports;
 use std::alloc::Global;
 
 /// The number of sessions: 64 of clients, the pump's, and the one that stops the desk.
@@ -21,7 +23,7 @@ pub struct Machine {
     pub table: Option<Table>,
     /// How many batches were applied.
     pub version: u64,
-    pub queues: Vec<Queue>,
+    pub ports: Ports,
     pub views: Vec<View>,
     /// How many views each session has opened.
     pub opened: [u64; SESSIONS],
@@ -36,7 +38,7 @@ impl Machine {
             alloc,
             table: None,
             version: 0,
-            queues: Vec::new(alloc),
+            ports: Ports::new(alloc),
             views: Vec::new(alloc),
             opened: [0; SESSIONS],
         }
@@ -48,6 +50,18 @@ impl Machine {
         ensures { (past : List Answered) → Holds self.old past → length past < 2 ^ 53
             → Does past session (ask.request_view request) result self.new }
     {
+        match self.answer(session, request) {
+            Ok(answer) => answer,
+            Err(why) => Body::Refused(why),
+        }
+    }
+
+    /// The answer to a request, or why it is refused.
+    fn answer(&mut self, session: u32, request: Request) -> Result<Body, Refusal>
+        requires { session ≤ 65 }
+        ensures { (past : List Answered) → Holds self.old past → length past < 2 ^ 53
+            → Does past session (ask.request_view request) (body_in result) self.new }
+    {
         match request {
             Request::Table {
                 columns,
@@ -55,29 +69,53 @@ impl Machine {
                 limit,
             } => self.make_table(columns, index, limit),
             Request::Port => self.make_port(),
+            Request::Leave => Ok(self.leave(session)),
+            Request::Info => self.info(),
             Request::Update { port, rows } => self.update(port, rows),
+            Request::Replace { port, rows } => self.replace(port, rows),
+            Request::Csv { port, text } => self.csv(port, text),
+            Request::Remove { port, keys } => self.remove(port, keys),
+            Request::Clear { port } => self.clear(port),
+            Request::ClosePort { port } => self.close_port(port),
             Request::Apply { port } => self.apply(port),
             Request::Open { plan, bound } => self.open(session, plan, bound),
             Request::Rows { view, from, to } => self.rows(session, view, from, to),
-            Request::Unread(why) => refused::unread(why),
+            Request::Close { view } => self.close(session, view),
+            Request::Unread(why) => Err(refused::unread(why)),
         }
     }
 
     /// Makes the table.
-    fn make_table(&mut self, columns: Columns, index: Option<Text>, limit: Option<i64>) -> Body
+    fn make_table(
+        &mut self,
+        columns: Columns,
+        index: Option<Text>,
+        limit: Option<i64>,
+    ) -> Result<Body, Refusal>
         ensures { (past : List Answered) → Holds self.old past → length past < 2 ^ 53
-            → (session : ℕ) → Does past session (ask.table columns index limit) result self.new }
+            → (session : ℕ) → Does past session (ask.table columns index limit) (body_in result) self.new }
     {
         if self.table.is_some() {
-            return refused::unbuilt();
+            return Err(refused::table_set());
         }
         match Schema::make(self.alloc, columns, index, limit) {
             Ok(schema) => {
                 self.table = Some(Table::make(self.alloc, schema));
-                Body::Table
+                Ok(Body::Table)
             }
-            Err(SchemaRefused::Bad { .. }) => refused::unbuilt(),
-            Err(SchemaRefused::Memory) => refused::memory(),
+            Err(SchemaRefused::Bad { cause, at }) => Err(refused::bad_schema(cause, at)),
+            Err(SchemaRefused::Memory) => Err(refused::memory()),
+        }
+    }
+
+    /// The table, once one was made.
+    pub fn table(&self) -> Result<&Table, Refusal>
+        ensures ok { IfOk result (λ table. self.now.table ≡ Some table.now) }
+        ensures err { IfErr result (λ why. (self.now.table ≡ None) × (why ≡ refusals.no_table)) }
+    {
+        match &self.table {
+            Some(table) => Ok(table),
+            None => Err(refused::no_table()),
         }
     }
 }

@@ -1,116 +1,202 @@
-ghost use Rattle.std.specs.Prelude.{◌≡◌, ℕ, List, ◌<◌, ◌+◌, ◌^◌, nat_lt, length, Some, true};
+ghost use Rattle.std.specs.Prelude.{◌≡◌, ℕ, List, [], ◌∷◌, ◌<◌, ◌≤◌, ◌^◌, ◌==◌, length, Some, None, true, false, IfOk, IfErr};
+ghost use Rattle.plain_data.specs.Faults.{first_fault};
 ghost use Rattle.cell_core.specs.RawViews.{raw_view};
+ghost use Rattle.row_batch.specs.Batches.{rows_in};
 ghost use Rattle.frame_types.specs.Asks.{Ask};
 ghost use Rattle.frame_types.specs.Asks as ask;
+ghost use Rattle.hub_ports.specs.Ports.{port_at};
 ghost use Rattle.hub_spec.specs.Answered.{Answered};
+ghost use Rattle.hub_spec.specs.Answers.{without_port, closed_port};
 ghost use Rattle.hub_spec.specs.Histories.{may_choose, want};
 ghost use Rattle.hub_spec.specs.Ports.{schema};
 ghost use Rattle.hub_spec.specs.Reading.{batch_asked};
-ghost use Rattle.hub_core.specs.Queues.{rows_in_queues};
-ghost use Rattle.hub_core.specs.Tables.{store_in};
-ghost use Rattle.hub_core.specs.Holding.{Holds, Does, DoesBy, queue_answer};
+ghost use Rattle.hub_core.specs.Holding.{Holds, Does, DoesBy, put_answer, rows_answer};
+ghost use Rattle.hub_core.specs.Refusing.{body_in};
 
 use crate::machine::Machine;
-use crate::queues::{Queue, room_after};
 use crate::refused;
-use cell_core::{MAX_ROWS, Raw};
-use frame_types::Body;
-use json_rows::batch_rows;
-use row_batch::Batch;
+use cell_core::{Keeping, Raw, Text};
+use csv_rows::csv_patches;
+use frame_types::{Body, Refusal};
+use hub_ports::PutRefused;
+use json_rows::{batch_keys, batch_rows};
+use row_batch::{Batch, MAX_BATCH};
 
 impl Machine {
     /// Makes a port.
-    pub fn make_port(&mut self) -> Body
+    pub fn make_port(&mut self) -> Result<Body, Refusal>
         ensures { (past : List Answered) → Holds self.old past → length past < 2 ^ 53
-            → (session : ℕ) → Does past session ask.port result self.new }
+            → (session : ℕ) → Does past session ask.port (body_in result) self.new }
     {
-        if self.table.is_none() {
-            return refused::no_table();
+        let _table = self.table()?;
+        if self.ports.is_full() {
+            return Err(refused::too_many_ports());
         }
-        if !self.queues.is_empty() {
-            return refused::unbuilt();
+        match self.ports.add(self.alloc) {
+            Ok(port) => Ok(Body::Port { port }),
+            Err(_) => Err(refused::memory()),
         }
-        let port = self.queues.len() as u64;
-        if self.queues.push(Queue::new(self.alloc)).is_err() {
-            return refused::memory();
-        }
-        Body::Port { port }
     }
 
-    /// Queues an update on a port.
-    pub fn update(&mut self, port: u64, rows: Raw) -> Body
-        ensures { (past : List Answered) → Holds self.old past → length past < 2 ^ 53
-            → (session : ℕ) → Does past session (ask.update port (raw_view rows)) result self.new }
+    /// The place of the open port of that number.
+    fn open_port(&self, port: u64) -> Result<usize, Refusal>
+        ensures err { IfErr result (λ why. (past : List Answered) → Holds self.now past
+            → first_fault (without_port past port ∷ closed_port past port ∷ []) ≡ Some why) }
+        ensures ok { IfOk result (λ place. (past : List Answered) → Holds self.now past
+            → first_fault (without_port past port ∷ closed_port past port ∷ []) ≡ None) }
+        ensures other { IfErr result (λ why. (why.code == 22) ≡ false) }
+        ensures number { IfOk result (λ place. (port_at self.now.ports.live place).number ≡ port) }
+        ensures open { IfOk result (λ place. (port_at self.now.ports.live place).queue.closed ≡ false) }
+        ensures within { IfOk result (λ place. place < length self.now.ports.live) }
     {
-        let Some(table) = &self.table else {
-            return refused::no_table();
-        };
-        if port >= self.queues.len() as u64 {
-            return refused::unbuilt();
+        if port >= self.ports.made() {
+            return Err(refused::no_port());
         }
+        match self.ports.find(port) {
+            Some(place) if !self.ports.queue(place).is_closed() => Ok(place),
+            _ => Err(refused::port_closed()),
+        }
+    }
+
+    /// Queues an update.
+    pub fn update(&mut self, port: u64, rows: Raw) -> Result<Body, Refusal>
+        ensures { (past : List Answered) → Holds self.old past → length past < 2 ^ 53
+            → (session : ℕ) → Does past session (ask.update port (raw_view rows)) (body_in result) self.new }
+    {
+        let table = self.table()?;
+        let place = self.open_port(port)?;
         match batch_rows(self.alloc, table.schema(), &rows) {
-            Ok(Some(patches)) => self.queue_batch(port as usize, Batch::Update(patches)),
-            Ok(None) => refused::unbuilt(),
-            Err(_) => refused::memory(),
+            Ok(patches) => self.queue_rows(place, Batch::Update(patches)),
+            Err(why) => Err(refused::rows(why)),
         }
     }
 
-    /// Queues a batch on a port that stands, where there is room for it.
-    fn queue_batch(&mut self, port: usize, batch: Batch) -> Body
-        requires { port < length self.old.queues.items }
+    /// Queues an update that comes after the table was cleared.
+    pub fn replace(&mut self, port: u64, rows: Raw) -> Result<Body, Refusal>
         ensures { (past : List Answered) → Holds self.old past → length past < 2 ^ 53
-            → (session : ℕ) (request : Ask) → batch_asked (schema past) request ≡ Some batch
-            → may_choose past request want (queue_answer past port batch) ≡ true
-            → DoesBy (queue_answer past port batch) past session request result self.new }
+            → (session : ℕ) → Does past session (ask.replace port (raw_view rows)) (body_in result) self.new }
     {
-        if self.queues[port].is_full() {
-            return refused::unbuilt();
+        let table = self.table()?;
+        let place = self.open_port(port)?;
+        match batch_rows(self.alloc, table.schema(), &rows) {
+            Ok(patches) => self.queue_rows(place, Batch::Replace(patches)),
+            Err(why) => Err(refused::rows(why)),
         }
-        if self.is_overfull(batch.rows()) {
-            return refused::unbuilt();
-        }
-        let queue = &mut self.queues[port];
-        let seq = queue.next_seq();
-        if queue.put(batch).is_err() {
-            return refused::memory();
-        }
-        let port = port as u64;
-        Body::Queued { port, seq }
     }
 
-    /// Whether the live rows, the waiting rows and the added ones are more than 65,536.
-    fn is_overfull(&self, added: usize) -> bool
-        ensures { result ≡ nat_lt 65536 (length (store_in self.now.table).pairs + rows_in_queues self.now.queues.items + added) }
+    /// Queues an update whose rows are CSV text.
+    pub fn csv(&mut self, port: u64, text: Text) -> Result<Body, Refusal>
+        ensures { (past : List Answered) → Holds self.old past → length past < 2 ^ 53
+            → (session : ℕ) → Does past session (ask.csv port text) (body_in result) self.new }
     {
-        let live = match &self.table {
-            Some(table) => table.pairs().len(),
-            None => 0,
+        let table = self.table()?;
+        let place = self.open_port(port)?;
+        match csv_patches(self.alloc, table.schema(), &text) {
+            Ok(patches) => self.queue_rows(place, Batch::Update(patches)),
+            Err(why) => Err(refused::rows(why)),
+        }
+    }
+
+    /// Queues the removal of the rows of some keys.
+    pub fn remove(&mut self, port: u64, keys: Raw) -> Result<Body, Refusal>
+        ensures { (past : List Answered) → Holds self.old past → length past < 2 ^ 53
+            → (session : ℕ) → Does past session (ask.remove port (raw_view keys)) (body_in result) self.new }
+    {
+        let table = self.table()?;
+        let place = self.open_port(port)?;
+        let Keeping::Indexed(_) = table.schema().keeping() else {
+            return Err(refused::not_indexed());
         };
-        let room = (MAX_ROWS as usize + 1).saturating_sub(live);
-        room_after(self.queues.as_slice(), room) <= added
+        match batch_keys(self.alloc, table.schema(), &keys) {
+            Ok(keys) => self.queue_batch(place, Batch::Remove(keys)),
+            Err(why) => Err(refused::rows(why)),
+        }
+    }
+
+    /// Queues the removal of all rows.
+    pub fn clear(&mut self, port: u64) -> Result<Body, Refusal>
+        ensures { (past : List Answered) → Holds self.old past → length past < 2 ^ 53
+            → (session : ℕ) → Does past session (ask.clear port) (body_in result) self.new }
+    {
+        let _table = self.table()?;
+        let place = self.open_port(port)?;
+        self.queue_batch(place, Batch::Clear)
+    }
+
+    /// Queues a batch that puts rows on the open port at a place, where the table has room for them.
+    fn queue_rows(&mut self, place: usize, batch: Batch) -> Result<Body, Refusal>
+        requires within { place < length self.old.ports.live }
+        requires small { rows_in batch ≤ MAX_BATCH }
+        ensures { (past : List Answered) → Holds self.old past → length past < 2 ^ 53
+            → (port_at self.old.ports.live place).queue.closed ≡ false
+            → (session : ℕ) (request : Ask) → batch_asked (schema past) request ≡ Some batch
+            → may_choose past request want (rows_answer past (port_at self.old.ports.live place).number batch) ≡ true
+            → DoesBy (rows_answer past (port_at self.old.ports.live place).number batch) past session request (body_in result) self.new }
+    {
+        if self.ports.queue(place).is_full() {
+            return Err(refused::port_full());
+        }
+        match self.too_many_rows(&batch) {
+            Ok(None) => self.queue_batch(place, batch),
+            Ok(Some(would)) => Err(refused::table_full(would)),
+            Err(_) => Err(refused::memory()),
+        }
+    }
+
+    /// Queues a batch on the open port at a place.
+    fn queue_batch(&mut self, place: usize, batch: Batch) -> Result<Body, Refusal>
+        requires within { place < length self.old.ports.live }
+        requires small { rows_in batch ≤ MAX_BATCH }
+        ensures { (past : List Answered) → Holds self.old past → length past < 2 ^ 53
+            → (port_at self.old.ports.live place).queue.closed ≡ false
+            → (session : ℕ) (request : Ask) → batch_asked (schema past) request ≡ Some batch
+            → may_choose past request want (put_answer past (port_at self.old.ports.live place).number) ≡ true
+            → DoesBy (put_answer past (port_at self.old.ports.live place).number) past session request (body_in result) self.new }
+    {
+        let port = self.ports.number(place);
+        match self.ports.put(place, batch) {
+            Ok(seq) => Ok(Body::Queued { port, seq }),
+            Err(PutRefused::Closed) => Err(refused::port_closed()),
+            Err(PutRefused::Full) => Err(refused::port_full()),
+            Err(PutRefused::Memory) => Err(refused::memory()),
+        }
+    }
+
+    /// Closes a port.
+    pub fn close_port(&mut self, port: u64) -> Result<Body, Refusal>
+        ensures { (past : List Answered) → Holds self.old past → length past < 2 ^ 53
+            → (session : ℕ) → Does past session (ask.close_port port) (body_in result) self.new }
+    {
+        let _table = self.table()?;
+        let place = self.open_port(port)?;
+        self.ports.close(place);
+        Ok(Body::PortClosed { port })
     }
 
     /// Applies the oldest batch that waits on a port.
-    pub fn apply(&mut self, port: u64) -> Body
+    pub fn apply(&mut self, port: u64) -> Result<Body, Refusal>
         ensures { (past : List Answered) → Holds self.old past → length past < 2 ^ 53
-            → (session : ℕ) → Does past session (ask.apply port) result self.new }
+            → (session : ℕ) → Does past session (ask.apply port) (body_in result) self.new }
     {
         let Some(table) = &mut self.table else {
-            return refused::no_table();
+            return Err(refused::no_table());
         };
-        if port >= self.queues.len() as u64 {
-            return refused::unbuilt();
+        if port >= self.ports.made() {
+            return Err(refused::no_port());
         }
-        let queue = &mut self.queues[port as usize];
+        let Some(place) = self.ports.find(port) else {
+            return Err(refused::empty());
+        };
+        let queue = self.ports.queue(place);
         let Some(batch) = queue.front() else {
-            return refused::empty();
+            return Err(refused::empty());
         };
         if table.put(self.alloc, batch).is_err() {
-            return refused::memory();
+            return Err(refused::memory());
         }
-        queue.drop_front(self.alloc);
+        let seq = queue.taken().saturating_add(1);
+        drop(self.ports.take_front(place));
         self.version = self.version.saturating_add(1);
-        let seq = queue.taken;
-        Body::Applied { port, seq }
+        Ok(Body::Applied { port, seq })
     }
 }

@@ -1,8 +1,10 @@
-ghost use Rattle.std.specs.Prelude.{◌≡◌, map, OnOk, OnErr};
+ghost use Rattle.std.specs.Prelude.{◌≡◌, length, map, OnOk, OnErr};
+ghost use Rattle.std.specs.List.{list_any};
+ghost use Rattle.cell_core.specs.Cells.{same_cell};
 ghost use Rattle.plain_data.specs.Distinct.{AreDistinct};
 ghost use Rattle.row_batch.specs.Batches.{empty_store, put_batch};
 
-use cell_core::{Memory, Schema};
+use cell_core::{Cell, Memory, Schema};
 use row_batch::{Batch, Pair, PlainTable};
 use std::alloc::Global;
 use std::marker::Model;
@@ -52,6 +54,21 @@ impl Table {
         self.rows.pairs()
     }
 
+    /// The number of rows.
+    pub fn len(&self) -> usize
+        ensures len { result ≡ length self.now.store.pairs }
+        ensures distinct { AreDistinct (map (λ p. p.key) self.now.store.pairs) }
+    {
+        self.rows.pairs().len()
+    }
+
+    /// Whether a row has that key.
+    pub fn has_key(&self, key: &Cell) -> bool
+        ensures { result ≡ list_any (λ p. same_cell key.now p.key) self.now.store.pairs }
+    {
+        has_key(self.rows.pairs(), key)
+    }
+
     /// Applies a batch whole. After want of memory the table is as before.
     pub fn put(&mut self, alloc: Global, batch: &Batch) -> Result<(), Memory>
         ensures schema { self.new.schema ≡ self.old.schema }
@@ -64,4 +81,10 @@ impl Table {
         }
         self.rows.put(alloc, &self.schema, batch)
     }
+}
+
+fn has_key(pairs: &[Pair], key: &Cell) -> bool
+    ensures { result ≡ list_any (λ p. same_cell key.now p.key) pairs.now }
+{
+    pairs.iter().any(|pair| key.order(&pair.key).is_eq())
 }

@@ -5,32 +5,32 @@ ghost use Rattle.frame_types.specs.Asks as ask;
 ghost use Rattle.hub_spec.specs.Answered.{Answered};
 ghost use Rattle.hub_spec.specs.Answers.{is_empty_plan};
 ghost use Rattle.hub_core.specs.Holding.{Holds, Does};
+ghost use Rattle.hub_core.specs.Refusing.{body_in};
 
 use crate::machine::Machine;
 use crate::refused;
-use crate::views::{View, find_view};
+use crate::told::{column_words, index_name, limit_of};
+use crate::views::{MAX_VIEWS, View, count_views, drop_view, drop_views, find_view};
 use cell_core::{Raw, RawMap};
-use frame_types::Body;
+use frame_types::{Body, Refusal};
 use plain_view::{show, show_window};
 
 impl Machine {
     /// Opens a view.
-    pub fn open(&mut self, session: u32, plan: Raw, bound: u64) -> Body
+    pub fn open(&mut self, session: u32, plan: Raw, bound: u64) -> Result<Body, Refusal>
         requires { session ≤ 65 }
         ensures { (past : List Answered) → Holds self.old past → length past < 2 ^ 53
-            → Does past session (ask.open_view (raw_view plan) bound) result self.new }
+            → Does past session (ask.open_view (raw_view plan) bound) (body_in result) self.new }
     {
-        let Some(table) = &self.table else {
-            return refused::no_table();
-        };
-        if !self.views.is_empty() {
-            return refused::unbuilt();
-        }
+        let table = self.table()?;
         if !is_empty_plan(&plan) {
-            return refused::unbuilt();
+            return Err(refused::unbuilt());
+        }
+        if self.views.len() >= MAX_VIEWS {
+            return Err(refused::too_many_views());
         }
         let Ok(shown) = show(self.alloc, table.schema(), table.pairs()) else {
-            return refused::memory();
+            return Err(refused::memory());
         };
         let edit = 0;
         let number = self.opened[session as usize];
@@ -42,45 +42,88 @@ impl Machine {
             lost: None,
         };
         if self.views.push(view).is_err() {
-            return refused::memory();
+            return Err(refused::memory());
         }
         self.opened[session as usize] = number.saturating_add(1);
-        Body::Opened {
+        Ok(Body::Opened {
             edit,
             shown,
             view: number,
-        }
+        })
     }
 
     /// Shows the rows of a view at positions `from` up to and without `to`.
-    pub fn rows(&mut self, session: u32, view: u64, from: u64, to: u64) -> Body
+    pub fn rows(&mut self, session: u32, view: u64, from: u64, to: u64) -> Result<Body, Refusal>
         ensures { (past : List Answered) → Holds self.old past → length past < 2 ^ 53
-            → Does past session (ask.rows view from to) result self.new }
+            → Does past session (ask.rows view from to) (body_in result) self.new }
     {
-        let Some(table) = &self.table else {
-            return refused::no_table();
-        };
+        let table = self.table()?;
         let Some(held) = find_view(self.views.as_slice(), session, view) else {
-            return refused::unbuilt();
+            return Err(refused::no_view());
         };
-        if to < from {
-            return refused::unbuilt();
-        }
         if let Some(version) = held.lost {
-            return refused::view_lost(version);
+            return Err(refused::view_lost(version));
+        }
+        if to < from {
+            return Err(refused::bad_window(from, to));
         }
         let edit = held.edit;
         let (schema, pairs) = (table.schema(), table.pairs());
         let Ok((shown, size)) = show_window(self.alloc, schema, pairs, from, to) else {
-            return refused::memory();
+            return Err(refused::memory());
         };
-        Body::Rows {
+        Ok(Body::Rows {
             edit,
             from,
             shown,
             size,
             view,
-        }
+        })
+    }
+
+    /// Closes a view.
+    pub fn close(&mut self, session: u32, view: u64) -> Result<Body, Refusal>
+        ensures { (past : List Answered) → Holds self.old past → length past < 2 ^ 53
+            → Does past session (ask.close view) (body_in result) self.new }
+    {
+        let _table = self.table()?;
+        let Some(_held) = find_view(self.views.as_slice(), session, view) else {
+            return Err(refused::no_view());
+        };
+        drop_view(&mut self.views, session, view);
+        Ok(Body::Closed { view })
+    }
+
+    /// Closes all views that a session holds.
+    pub fn leave(&mut self, session: u32) -> Body
+        ensures { (past : List Answered) → Holds self.old past → length past < 2 ^ 53
+            → Does past session ask.leave result self.new }
+    {
+        let closed = count_views(self.views.as_slice(), session) as u64;
+        drop_views(&mut self.views, session);
+        Body::Left { closed }
+    }
+
+    /// Tells of the table.
+    pub fn info(&mut self) -> Result<Body, Refusal>
+        ensures { (past : List Answered) → Holds self.old past → length past < 2 ^ 53
+            → (session : ℕ) → Does past session ask.info (body_in result) self.new }
+    {
+        let table = self.table()?;
+        let schema = table.schema();
+        let Ok(columns) = column_words(self.alloc, schema.columns()) else {
+            return Err(refused::memory());
+        };
+        let Ok(index) = index_name(self.alloc, schema) else {
+            return Err(refused::memory());
+        };
+        Ok(Body::Info {
+            columns,
+            index,
+            limit: limit_of(schema),
+            size: table.pairs().len() as u64,
+            waiting: self.ports.batches_waiting(),
+        })
     }
 }
 

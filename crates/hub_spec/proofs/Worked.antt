@@ -1,5 +1,5 @@
 -- Worked histories: what the definitions say of them, computed.
-use Rattle.std.proofs.Common.{◌≡◌, ℕ, suc, zero, ℤ, pos, negsuc, Bool, true, false, List, [], ◌∷◌, Some, None, refl}
+use Rattle.std.proofs.Common.{◌≡◌, ℕ, suc, zero, ℤ, pos, negsuc, Bool, true, false, List, [], ◌∷◌, Some, None, Err, refl}
 use Rattle.std.specs.Prelude.{codes}
 use Rattle.value_core.specs.Values.{value_order}
 use Rattle.value_core.specs.declared.value.Value.TheVariants.{Whole}
@@ -14,7 +14,11 @@ use Rattle.row_batch.specs.Batches.{empty_store, put_batch}
 use Rattle.row_batch.specs.declared.batch.Batch.TheVariants as batch
 use Rattle.row_batch.specs.declared.batch.PatchCell.{PatchCell}
 use Rattle.row_batch.specs.declared.batch.PatchCell.TheVariants.{Set}
-use Rattle.json_rows.specs.Reading.{patches_of}
+use Rattle.json_rows.specs.Reading.{read_rows}
+use Rattle.row_batch.specs.declared.refused.BatchRefused.{BatchRefused}
+use Rattle.row_batch.specs.declared.refused.RowCause.TheVariants as row
+use Rattle.cell_core.specs.declared.schema.Numbers.TheVariants.{Zero, One, Two}
+use Rattle.cell_core.specs.declared.schema.SchemaCause.TheVariants as schema
 use Rattle.view_types.specs.declared.key.ViewKey.TheVariants.{Row}
 use Rattle.view_types.specs.declared.shown.HeaderColumn.{HeaderColumn}
 use Rattle.view_types.specs.declared.shown.Shown.{Shown}
@@ -23,12 +27,13 @@ use Rattle.view_types.specs.declared.shown.ShownType.TheVariants.{Integer}
 use Rattle.plain_view.specs.Flat.{flat_view}
 use Rattle.frame_types.specs.Asks.{Ask}
 use Rattle.frame_types.specs.Asks as ask
-use Rattle.frame_types.specs.Refusals.{no_table, empty, bad_frame, history_full, view_lost, memory}
+use Rattle.frame_types.specs.Refusals.{no_table, table_set, bad_schema, no_port, port_closed, too_many_ports, bad_rows, not_indexed, port_full, table_full, empty, bad_frame, history_full, too_many_views, no_view, view_lost, bad_window, memory}
 use Rattle.frame_types.specs.declared.reply.Body.{Body}
 use Rattle.frame_types.specs.declared.reply.Body.TheVariants as body
 use Rattle.frame_types.specs.declared.reply.Cause.TheVariants as cause
 use Rattle.frame_types.specs.declared.reply.Reply.{Reply}
 use Rattle.frame_types.specs.declared.request.FrameCause.TheVariants as frame
+use Rattle.hub_spec.specs.Room.{different}
 use Rattle.hub_spec.specs.Histories.{Entry, Choice, plenty, want, losing, answer, answered, is_allowed, followed, told}
 
 -- ---- how requests, rows and replies are written here
@@ -49,6 +54,10 @@ reply n version answer = record { n = n; version = version; body = answer }
 
 abbrev refused_unbuilt : Body
 refused_unbuilt = body.Refused (bad_frame cause.Unbuilt)
+
+-- rows that are refused, and where
+abbrev refused_rows : BatchRefused → Body
+refused_rows why = body.Refused (bad_rows why)
 
 abbrev integer_column : List ℕ → ColumnWords
 integer_column name = record { name = name; kind = codes "integer" }
@@ -133,38 +142,38 @@ apply_with_nothing_waiting = refl
 pub apply_after_all_are_applied : answer roomy with_rows (asks (ask.apply 0)) ≡ reply 5 1 (body.Refused empty)
 apply_after_all_are_applied = refl
 
-pub second_table : answer roomy with_table (asks make_table) ≡ reply 2 0 refused_unbuilt
+pub second_table : answer roomy with_table (asks make_table) ≡ reply 2 0 (body.Refused table_set)
 second_table = refl
 
-pub table_without_columns : answer roomy [] (asks (ask.table [] (Some (codes "k")) None)) ≡ reply 1 0 refused_unbuilt
+pub table_without_columns : answer roomy [] (asks (ask.table [] (Some (codes "k")) None)) ≡ reply 1 0 (body.Refused (bad_schema schema.NoColumns Zero))
 table_without_columns = refl
 
-pub second_port : answer roomy with_port (asks ask.port) ≡ reply 3 0 refused_unbuilt
+pub second_port : answer roomy with_port (asks ask.port) ≡ reply 3 0 (body.Port 1)
 second_port = refl
 
 -- a port that was refused is not the first one
 pub port_after_a_refused_one : answer roomy (asks make_table ∷ asks ask.port ∷ []) (asks ask.port) ≡ reply 3 0 (body.Port 0)
 port_after_a_refused_one = refl
 
-pub other_port : answer roomy with_batch (asks (ask.apply 1)) ≡ reply 4 0 refused_unbuilt
+pub other_port : answer roomy with_batch (asks (ask.apply 1)) ≡ reply 4 0 (body.Refused no_port)
 other_port = refl
 
-pub row_without_index : answer roomy with_port (asks (update (one_row (raw_map (raw_member (codes "v") (raw_int (pos 5)) no_raw_members))))) ≡ reply 3 0 refused_unbuilt
+pub row_without_index : answer roomy with_port (asks (update (one_row (raw_map (raw_member (codes "v") (raw_int (pos 5)) no_raw_members))))) ≡ reply 3 0 (refused_rows (record { cause = row.Index; at = One 0 }))
 row_without_index = refl
 
-pub row_of_another_column : answer roomy with_port (asks (update (one_row (raw_map (raw_member (codes "k") (raw_int (pos 5)) (raw_member (codes "w") (raw_int (pos 5)) no_raw_members)))))) ≡ reply 3 0 refused_unbuilt
+pub row_of_another_column : answer roomy with_port (asks (update (one_row (raw_map (raw_member (codes "k") (raw_int (pos 5)) (raw_member (codes "w") (raw_int (pos 5)) no_raw_members)))))) ≡ reply 3 0 (refused_rows (record { cause = row.Unknown; at = One 0 }))
 row_of_another_column = refl
 
-pub row_with_null : answer roomy with_port (asks (update (one_row (raw_map (raw_member (codes "k") raw_null no_raw_members))))) ≡ reply 3 0 refused_unbuilt
+pub row_with_null : answer roomy with_port (asks (update (one_row (raw_map (raw_member (codes "k") raw_null no_raw_members))))) ≡ reply 3 0 (refused_rows (record { cause = row.Index; at = One 0 }))
 row_with_null = refl
 
 pub greatest_cell : answer roomy with_port (asks (update (one_row (k_and_v (pos 9007199254740991) (negsuc 9007199254740990))))) ≡ reply 3 0 (body.Queued 0 1)
 greatest_cell = refl
 
-pub cell_too_great : answer roomy with_port (asks (update (one_row (only_k (pos 9007199254740992))))) ≡ reply 3 0 refused_unbuilt
+pub cell_too_great : answer roomy with_port (asks (update (one_row (only_k (pos 9007199254740992))))) ≡ reply 3 0 (refused_rows (record { cause = row.Range; at = Two 0 0 }))
 cell_too_great = refl
 
-pub cell_too_small : answer roomy with_port (asks (update (one_row (only_k (negsuc 9007199254740991))))) ≡ reply 3 0 refused_unbuilt
+pub cell_too_small : answer roomy with_port (asks (update (one_row (only_k (negsuc 9007199254740991))))) ≡ reply 3 0 (refused_rows (record { cause = row.Range; at = Two 0 0 }))
 cell_too_small = refl
 
 abbrev many_rows : ℕ → RawItems
@@ -174,26 +183,27 @@ many_rows (suc n) = raw_item (only_k (pos 1)) (many_rows n)
 pub most_rows_of_a_batch : answer roomy with_port (asks (update (raw_list (many_rows 1024)))) ≡ reply 3 0 (body.Queued 0 1)
 most_rows_of_a_batch = refl
 
-pub too_many_rows_of_a_batch : answer roomy with_port (asks (update (raw_list (many_rows 1025)))) ≡ reply 3 0 refused_unbuilt
+pub too_many_rows_of_a_batch : answer roomy with_port (asks (update (raw_list (many_rows 1025)))) ≡ reply 3 0 (refused_rows (record { cause = row.Rows; at = One 1025 }))
 too_many_rows_of_a_batch = refl
 
 pub no_rows_are_a_batch : answer roomy with_port (asks (update (raw_list no_raw_items))) ≡ reply 3 0 (body.Queued 0 1)
 no_rows_are_a_batch = refl
 
-pub rows_across : answer roomy with_port (asks (update (raw_map no_raw_members))) ≡ reply 3 0 refused_unbuilt
+pub rows_across : answer roomy with_port (asks (update (raw_map no_raw_members))) ≡ reply 3 0 (body.Queued 0 1)
 rows_across = refl
 
-pub second_view : answer roomy with_view (asks open_all) ≡ reply 6 1 refused_unbuilt
+pub second_view : answer roomy with_view (asks open_all) ≡ reply 6 1 (body.Opened 0 (shows (shown_row (pos 1) (pos 7) ∷ shown_row (pos 2) (pos 5) ∷ [])) 1)
+unfolding value_order
 second_view = refl
 
 pub other_plan : answer roomy with_rows (asks (ask.open_view (raw_map (raw_member (codes "sort") (raw_list no_raw_items) no_raw_members)) 10)) ≡ reply 5 1 refused_unbuilt
 other_plan = refl
 
-pub view_not_given : answer roomy with_view (asks (ask.rows 1 0 2)) ≡ reply 6 1 refused_unbuilt
+pub view_not_given : answer roomy with_view (asks (ask.rows 1 0 2)) ≡ reply 6 1 (body.Refused no_view)
 view_not_given = refl
 
 -- a view of another session is none of this session, whose requests are counted apart
-pub view_of_another_session : answer roomy with_view (by 1 (ask.rows 0 0 2) plenty) ≡ reply 1 1 refused_unbuilt
+pub view_of_another_session : answer roomy with_view (by 1 (ask.rows 0 0 2) plenty) ≡ reply 1 1 (body.Refused no_view)
 view_of_another_session = refl
 
 -- ---- windows
@@ -218,7 +228,7 @@ pub empty_window : answer roomy with_view (asks (ask.rows 0 1 1)) ≡ reply 6 1 
 unfolding value_order
 empty_window = refl
 
-pub window_backwards : answer roomy with_view (asks (ask.rows 0 2 1)) ≡ reply 6 1 refused_unbuilt
+pub window_backwards : answer roomy with_view (asks (ask.rows 0 2 1)) ≡ reply 6 1 (body.Refused (bad_window 2 1))
 window_backwards = refl
 
 -- ---- batches
@@ -269,17 +279,20 @@ queued (suc n) rows h = asks (update (raw_list (many_rows rows))) ∷ queued n r
 pub sixty_fourth_waits : answer roomy (queued 63 0 with_port) (asks (update (raw_list no_raw_items))) ≡ reply 66 0 (body.Queued 0 64)
 sixty_fourth_waits = refl
 
-pub sixty_fifth_does_not : answer roomy (queued 64 0 with_port) (asks (update (raw_list no_raw_items))) ≡ reply 67 0 refused_unbuilt
+pub sixty_fifth_does_not : answer roomy (queued 64 0 with_port) (asks (update (raw_list no_raw_items))) ≡ reply 67 0 (body.Refused port_full)
 sixty_fifth_does_not = refl
 
--- one live row and 64,512 that wait
+-- a table without an index: one live row and 64,512 that wait
+abbrev with_free_port : List Entry
+with_free_port = asks ask.port ∷ asks (ask.table (integer_column (codes "k") ∷ []) None None) ∷ []
+
 abbrev nearly_full : List Entry
-nearly_full = queued 63 1024 (asks (ask.apply 0) ∷ queued 1 1 with_port)
+nearly_full = queued 63 1024 (asks (ask.apply 0) ∷ queued 1 1 with_free_port)
 
 pub rows_up_to_the_limit : answer roomy nearly_full (asks (update (raw_list (many_rows 1023)))) ≡ reply 68 1 (body.Queued 0 65)
 rows_up_to_the_limit = refl
 
-pub one_row_too_many : answer roomy nearly_full (asks (update (raw_list (many_rows 1024)))) ≡ reply 68 1 refused_unbuilt
+pub one_row_too_many : answer roomy nearly_full (asks (update (raw_list (many_rows 1024)))) ≡ reply 68 1 (body.Refused (table_full 65537))
 one_row_too_many = refl
 
 -- ---- a column of another type reads no whole number
@@ -287,8 +300,103 @@ one_row_too_many = refl
 abbrev dates : SchemaData
 dates = record { columns = record { name = codes "v"; kind = kind.Date } ∷ []; keeping = Free }
 
-pub number_for_a_date : patches_of dates (one_row (raw_map (raw_member (codes "v") (raw_int (pos 5)) no_raw_members))) ≡ None
+pub number_for_a_date : read_rows dates (one_row (raw_map (raw_member (codes "v") (raw_int (pos 5)) no_raw_members))) ≡ Err (record { cause = row.BadType; at = Two 0 0 })
 number_for_a_date = refl
+
+-- ---- different keys
+
+pub three_are_different : different (Int (pos 1) ∷ Int (pos 2) ∷ Int (pos 1) ∷ Int (pos 3) ∷ []) ≡ 3
+three_are_different = refl
+
+-- ---- ports that close
+
+abbrev closing : List Entry
+closing = asks (ask.close_port 0) ∷ asks (ask.clear 0) ∷ with_port
+
+pub a_port_closes : answer roomy (asks (ask.clear 0) ∷ with_port) (asks (ask.close_port 0)) ≡ reply 4 0 (body.PortClosed 0)
+a_port_closes = refl
+
+pub closed_takes_no_more : answer roomy closing (asks (ask.clear 0)) ≡ reply 5 0 (body.Refused port_closed)
+closed_takes_no_more = refl
+
+pub closed_is_closed : answer roomy closing (asks (ask.close_port 0)) ≡ reply 5 0 (body.Refused port_closed)
+closed_is_closed = refl
+
+pub closed_is_applied : answer roomy closing (asks (ask.apply 0)) ≡ reply 5 1 (body.Applied 0 1)
+closed_is_applied = refl
+
+pub next_port_is_new : answer roomy closing (asks ask.port) ≡ reply 5 0 (body.Port 1)
+next_port_is_new = refl
+
+-- so many ports behind a table
+abbrev many_ports : ℕ → List Entry
+many_ports zero = with_table
+many_ports (suc n) = asks ask.port ∷ many_ports n
+
+pub sixteen_ports : answer roomy (many_ports 15) (asks ask.port) ≡ reply 17 0 (body.Port 15)
+sixteen_ports = refl
+
+pub seventeen_ports : answer roomy (many_ports 16) (asks ask.port) ≡ reply 18 0 (body.Refused too_many_ports)
+seventeen_ports = refl
+
+pub one_closed_and_one_more : answer roomy (asks (ask.close_port 3) ∷ many_ports 16) (asks ask.port) ≡ reply 19 0 (body.Port 16)
+one_closed_and_one_more = refl
+
+-- ---- batches of other kinds
+
+pub keys_without_an_index : answer roomy with_free_port (asks (ask.remove 0 (raw_list no_raw_items))) ≡ reply 3 0 (body.Refused not_indexed)
+keys_without_an_index = refl
+
+pub keys_are_removed : answer roomy (asks (ask.apply 0) ∷ asks (ask.remove 0 (raw_list (raw_item (raw_int (pos 1)) no_raw_items))) ∷ with_view) (asks (ask.rows 0 0 9))
+    ≡ reply 8 2 (body.Rows 0 0 (shows (shown_row (pos 2) (pos 5) ∷ [])) 1 0)
+unfolding value_order
+keys_are_removed = refl
+
+pub all_are_replaced : answer roomy (asks (ask.apply 0) ∷ asks (ask.replace 0 (one_row (k_and_v (pos 3) (pos 4)))) ∷ with_view) (asks (ask.rows 0 0 9))
+    ≡ reply 8 2 (body.Rows 0 0 (shows (shown_row (pos 3) (pos 4) ∷ [])) 1 0)
+unfolding value_order
+all_are_replaced = refl
+
+-- ---- views of sessions
+
+pub a_view_closes : answer roomy with_view (asks (ask.close 0)) ≡ reply 6 1 (body.Closed 0)
+a_view_closes = refl
+
+pub its_number_is_not_used_again : answer roomy (asks (ask.close 0) ∷ with_view) (asks open_all) ≡ reply 7 1 (body.Opened 0 (shows (shown_row (pos 1) (pos 7) ∷ shown_row (pos 2) (pos 5) ∷ [])) 1)
+unfolding value_order
+its_number_is_not_used_again = refl
+
+pub another_session_closes_none : answer roomy with_view (by 1 (ask.close 0) plenty) ≡ reply 1 1 (body.Refused no_view)
+another_session_closes_none = refl
+
+pub a_session_leaves : answer roomy (asks open_all ∷ with_view) (asks ask.leave) ≡ reply 7 1 (body.Left 2)
+a_session_leaves = refl
+
+pub others_stay : answer roomy (by 1 ask.leave plenty ∷ with_view) (asks (ask.close 0)) ≡ reply 6 1 (body.Closed 0)
+others_stay = refl
+
+pub leaving_needs_no_table : answer roomy [] (asks ask.leave) ≡ reply 1 0 (body.Left 0)
+leaving_needs_no_table = refl
+
+-- so many views behind a table
+abbrev many_views : ℕ → List Entry
+many_views zero = with_table
+many_views (suc n) = by n open_all plenty ∷ many_views n
+
+pub seventeen_views : answer roomy (many_views 16) (asks open_all) ≡ reply 3 0 (body.Refused too_many_views)
+seventeen_views = refl
+
+pub told_of_the_table : answer roomy with_batch (asks ask.info) ≡ reply 4 0 (body.Info (integer_column (codes "k") ∷ integer_column (codes "v") ∷ []) (Some (codes "k")) None 0 1)
+told_of_the_table = refl
+
+pub no_want_of_a_close : is_allowed roomy (answered roomy with_view) 0 (ask.close 0) want ≡ false
+no_want_of_a_close = refl
+
+pub no_want_of_a_closed_port : is_allowed roomy (answered roomy with_port) 0 (ask.close_port 0) want ≡ false
+no_want_of_a_closed_port = refl
+
+pub no_want_of_leaving : is_allowed roomy (answered roomy with_view) 0 ask.leave want ≡ false
+no_want_of_leaving = refl
 
 -- ---- slots and running numbers
 
@@ -427,11 +535,11 @@ with_lost = by 0 (ask.apply 0) (losing ((0, 0) ∷ [])) ∷ one_waiting
 pub rows_of_a_lost_view : answer roomy with_lost (asks (ask.rows 0 0 1)) ≡ reply 8 2 (body.Refused (view_lost 2))
 rows_of_a_lost_view = refl
 
-pub backwards_in_a_lost_view : answer roomy with_lost (asks (ask.rows 0 2 1)) ≡ reply 8 2 refused_unbuilt
+pub backwards_in_a_lost_view : answer roomy with_lost (asks (ask.rows 0 2 1)) ≡ reply 8 2 (body.Refused (view_lost 2))
 backwards_in_a_lost_view = refl
 
-pub open_beside_a_lost_view : answer roomy with_lost (asks open_all) ≡ reply 8 2 refused_unbuilt
-open_beside_a_lost_view = refl
+pub a_lost_view_closes : answer roomy with_lost (asks (ask.close 0)) ≡ reply 8 2 (body.Closed 0)
+a_lost_view_closes = refl
 
 pub lost_twice : may_lose (asks (update (raw_list no_raw_items)) ∷ with_lost) (ask.apply 0) ((0, 0) ∷ []) ≡ false
 lost_twice = refl

@@ -1,13 +1,20 @@
 -- What a request is answered where memory is plenty: the first refusal whose condition holds, and
 -- else what is granted.
-use Rattle.std.specs.Prelude.{ℕ, ◌+◌, ◌==◌, nat_lt, nat_le, List, [], ◌∷◌, length, Bool, true, false, not, ◌||◌, Option, Some, None, is_some, is_none, unwrap_or, is_ok, if◌then◌else◌}
-use Rattle.cell_core.specs.RawData.{RawData, raw_null, raw_bool, raw_int, other_number, raw_words, raw_list, raw_map, RawMembers, no_raw_members, raw_member}
-use Rattle.cell_core.specs.Schemas.{schema_of}
-use Rattle.row_batch.specs.Batches.{rows_in}
+use Rattle.std.specs.Prelude.{ℕ, ◌+◌, ◌==◌, nat_lt, nat_le, List, [], ◌∷◌, ◌++◌, length, map, slice_get, Bool, true, false, not, Option, Some, None, is_some, is_none, unwrap_or, option_map, option_and_then, Result, Ok, Err}
+use Rattle.plain_data.specs.Faults.{first_fault}
+use Rattle.cell_core.specs.RawData.{RawData, raw_map, no_raw_members}
+use Rattle.cell_core.specs.Schemas.{SchemaData, schema_of, type_name}
+use Rattle.cell_core.specs.declared.schema.Column.{Column}
+use Rattle.cell_core.specs.declared.schema.ColumnWords.{ColumnWords}
+use Rattle.cell_core.specs.declared.schema.Keeping.{Keeping}
+use Rattle.cell_core.specs.declared.schema.Keeping.TheVariants.{Indexed, Limited, Free}
+use Rattle.cell_core.specs.declared.schema.SchemaRefused.{SchemaRefused}
+use Rattle.cell_core.specs.declared.schema.SchemaRefused.TheVariants as schema
 use Rattle.row_batch.specs.declared.batch.Batch.{Batch}
+use Rattle.row_batch.specs.declared.refused.BatchRefused.{BatchRefused}
 use Rattle.frame_types.specs.Asks.{Ask}
 use Rattle.frame_types.specs.Asks as ask
-use Rattle.frame_types.specs.Refusals.{frame_cause, bad_frame, history_full, empty, view_lost, no_table}
+use Rattle.frame_types.specs.Refusals.{frame_cause, bad_frame, table_set, bad_schema, too_many_ports, no_port, port_closed, bad_rows, not_indexed, port_full, table_full, history_full, empty, too_many_views, no_view, view_lost, bad_window, no_table, memory}
 use Rattle.frame_types.specs.declared.reply.Body.{Body}
 use Rattle.frame_types.specs.declared.reply.Body.TheVariants as body
 use Rattle.frame_types.specs.declared.reply.Cause.TheVariants.{Unbuilt}
@@ -15,91 +22,176 @@ use Rattle.frame_types.specs.declared.reply.Refusal.{Refusal}
 use Rattle.plain_view.specs.Flat.{window}
 use Rattle.view_types.specs.declared.shown.Shown.{Shown}
 use Rattle.hub_spec.specs.Answered.{Answered}
-use Rattle.hub_spec.specs.HeldViews.{HeldView, views, held, opened, opened_view, shown}
-use Rattle.hub_spec.specs.Ports.{schema, ports, has_port, accepted, taken, waiting, rows_waiting}
-use Rattle.hub_spec.specs.Reading.{batch_asked}
-use Rattle.hub_spec.specs.Rows.{rows}
+use Rattle.hub_spec.specs.HeldViews.{HeldView, views, held, held_by, opened, opened_view, shown}
+use Rattle.hub_spec.specs.Ports.{schema as schema_made, ports, has_port, is_closed, used_ports, accepted, taken, waiting, all_waiting}
+use Rattle.hub_spec.specs.Reading.{read_batch, batch_asked}
+use Rattle.hub_spec.specs.Room.{rows_with}
+use Rattle.hub_spec.specs.Rows.{schema_or_none, rows}
+
+abbrev pub unless_refused : Option Refusal → Body → Body
+unless_refused None granted = granted
+unless_refused (Some why) granted = body.Refused why
 
 -- the first check that holds refuses; where none holds the answer is what is granted
 abbrev pub first_of : List (Bool × Refusal) → Body → Body
-first_of [] granted = granted
-first_of ((refused, why) ∷ more) granted = if refused then body.Refused why else first_of more granted
+first_of checks granted = unless_refused (first_fault checks) granted
+
+-- ---- checks
 
 abbrev pub without_table : List Answered → Bool × Refusal
-without_table past = (is_none (schema past), no_table)
+without_table past = (is_none (schema_made past), no_table)
 
--- the form isn't built yet
-abbrev pub unbuilt : Bool → Bool × Refusal
-unbuilt b = (b, bad_frame Unbuilt)
+abbrev pub without_port : List Answered → ℕ → Bool × Refusal
+without_port past port = (not (has_port past port), no_port)
 
--- the view was lost
+abbrev pub closed_port : List Answered → ℕ → Bool × Refusal
+closed_port past port = (is_closed past port, port_closed)
+
+-- the schema's first fault
+abbrev pub faulty_schema : Result SchemaData SchemaRefused → Bool × Refusal
+faulty_schema (Ok made) = (false, memory)
+faulty_schema (Err (schema.Bad why at)) = (true, bad_schema why at)
+faulty_schema (Err schema.Memory) = (true, memory)
+
+-- the first cause against the rows or keys
+abbrev pub faulty_rows : Option (Result Batch BatchRefused) → Bool × Refusal
+faulty_rows None = (false, memory)
+faulty_rows (Some (Ok batch)) = (false, memory)
+faulty_rows (Some (Err why)) = (true, bad_rows why)
+
+abbrev pub bad_batch : List Answered → Ask → Bool × Refusal
+bad_batch past request = faulty_rows (option_and_then (λ made. read_batch made request) (schema_made past))
+
+abbrev pub is_indexed : Keeping → Bool
+is_indexed (Indexed column) = true
+is_indexed (Limited slots) = false
+is_indexed Free = false
+
+abbrev pub without_index : List Answered → Bool × Refusal
+without_index past = (not (is_indexed (schema_or_none past).keeping), not_indexed)
+
+abbrev pub full_port : List Answered → ℕ → Bool × Refusal
+full_port past port = (nat_le 64 (length (waiting past port)), port_full)
+
+-- the rows may come to more than 65,536
+abbrev pub too_many_rows : ℕ → Bool × Refusal
+too_many_rows would = (nat_lt 65536 would, table_full would)
+
+abbrev pub full_table_for : List Answered → Option Batch → Bool × Refusal
+full_table_for past None = (false, memory)
+full_table_for past (Some batch) = too_many_rows (rows_with (schema_or_none past).keeping past batch)
+
+abbrev pub full_table : List Answered → Ask → Bool × Refusal
+full_table past request = full_table_for past (batch_asked (schema_made past) request)
+
+abbrev pub without_view : List Answered → ℕ → ℕ → Bool × Refusal
+without_view past session view = (is_none (held past session view), no_view)
+
 abbrev pub lost_view : Option HeldView → Bool × Refusal
 lost_view None = (false, view_lost 0)
 lost_view (Some v) = (is_some v.lost, view_lost (unwrap_or v.lost 0))
-
--- ---- conditions
-
-abbrev pub new_rows : Option Batch → ℕ
-new_rows None = 0
-new_rows (Some b) = rows_in b
-
--- live rows, waiting rows and the batch's rows are more than 65,536
-abbrev pub is_overfull : List Answered → Option Batch → Bool
-is_overfull past batch = nat_lt 65536 (length (rows past) + rows_waiting past (ports past) + new_rows batch)
 
 abbrev pub is_empty_plan : RawData → Bool
 is_empty_plan (raw_map no_raw_members) = true
 is_empty_plan other = false
 
+-- a plan other than `{}` isn't built yet
+abbrev pub unbuilt_plan : RawData → Bool × Refusal
+unbuilt_plan plan = (not (is_empty_plan plan), bad_frame Unbuilt)
+
 -- ---- refusals, in the order in which they are tested
+
+-- of a request that needs an open port
+abbrev pub port_checks : List Answered → ℕ → List (Bool × Refusal)
+port_checks past port = without_table past ∷ without_port past port ∷ closed_port past port ∷ []
+
+-- of a request that puts rows
+abbrev pub putting : List Answered → ℕ → Ask → List (Bool × Refusal)
+putting past port request = port_checks past port ++ bad_batch past request ∷ full_port past port ∷ full_table past request ∷ []
 
 abbrev pub refusals : List Answered → ℕ → Ask → List (Bool × Refusal)
 refusals past session (ask.table columns index limit) =
-    unbuilt (is_some (schema past) || not (is_ok (schema_of columns index limit)))
+    (is_some (schema_made past), table_set)
+    ∷ faulty_schema (schema_of columns index limit)
     ∷ []
 refusals past session ask.port =
     without_table past
-    ∷ unbuilt (nat_lt 0 (ports past))
+    ∷ (nat_le 16 (length (used_ports past)), too_many_ports)
     ∷ []
-refusals past session (ask.update port raw) =
-    without_table past
-    ∷ unbuilt (not (has_port past port))
-    ∷ unbuilt (is_none (batch_asked (schema past) (ask.update port raw)))
-    ∷ unbuilt (nat_le 64 (length (waiting past port)))
-    ∷ unbuilt (is_overfull past (batch_asked (schema past) (ask.update port raw)))
-    ∷ []
+refusals past session ask.leave = []
+refusals past session ask.info = without_table past ∷ []
+refusals past session (ask.update port rows) = putting past port (ask.update port rows)
+refusals past session (ask.replace port rows) = putting past port (ask.replace port rows)
+refusals past session (ask.csv port text) = putting past port (ask.csv port text)
+refusals past session (ask.remove port keys) =
+    port_checks past port ++ without_index past ∷ bad_batch past (ask.remove port keys) ∷ full_port past port ∷ []
+refusals past session (ask.clear port) = port_checks past port ++ full_port past port ∷ []
+refusals past session (ask.close_port port) = port_checks past port
 refusals past session (ask.apply port) =
     without_table past
-    ∷ unbuilt (not (has_port past port))
+    ∷ without_port past port
     ∷ (length (waiting past port) == 0, empty)
     ∷ []
 refusals past session (ask.open_view plan bound) =
     without_table past
-    ∷ unbuilt (nat_lt 0 (length (views past)))
-    ∷ unbuilt (not (is_empty_plan plan))
+    ∷ unbuilt_plan plan
+    ∷ (nat_le 16 (length (views past)), too_many_views)
     ∷ []
 refusals past session (ask.rows view first end) =
     without_table past
-    ∷ unbuilt (is_none (held past session view))
-    ∷ unbuilt (nat_lt end first)
+    ∷ without_view past session view
     ∷ lost_view (held past session view)
+    ∷ (nat_lt end first, bad_window first end)
+    ∷ []
+refusals past session (ask.close view) =
+    without_table past
+    ∷ without_view past session view
     ∷ []
 refusals past session (ask.unread why) = (true, bad_frame (frame_cause why)) ∷ []
 
 -- ---- what is granted
 
 abbrev pub window_of : Option HeldView → (HeldView → Shown) → ℕ → ℕ → ℕ → Body
-window_of None shows view first end = body.Refused (bad_frame Unbuilt)
+window_of None shows view first end = body.Refused no_view
 window_of (Some v) shows view first end = body.Rows v.edit first (window first end (shows v)) (length (shows v).rows) view
+
+-- the number of the batch that is queued next
+abbrev pub queued : List Answered → ℕ → Body
+queued past port = body.Queued port (length (accepted past port) + 1)
+
+abbrev pub column_words : Column → ColumnWords
+column_words c = record { name = c.name; kind = type_name c.kind }
+
+abbrev pub index_name : SchemaData → Keeping → Option (List ℕ)
+index_name made (Indexed column) = option_map (λ c. c.name) (slice_get made.columns column)
+index_name made (Limited slots) = None
+index_name made Free = None
+
+abbrev pub limit_in : Keeping → Option ℕ
+limit_in (Indexed column) = None
+limit_in (Limited slots) = Some slots
+limit_in Free = None
+
+abbrev pub told_of : SchemaData → ℕ → ℕ → Body
+told_of made size waits =
+    body.Info (map column_words made.columns) (index_name made made.keeping) (limit_in made.keeping) size waits
 
 abbrev pub granted : List Answered → ℕ → Ask → Body
 granted past session (ask.table columns index limit) = body.Table
 granted past session ask.port = body.Port (ports past)
-granted past session (ask.update port raw) = body.Queued port (length (accepted past port) + 1)
+granted past session ask.leave = body.Left (held_by past session)
+granted past session ask.info = told_of (schema_or_none past) (length (rows past)) (length (all_waiting past))
+granted past session (ask.update port rows) = queued past port
+granted past session (ask.replace port rows) = queued past port
+granted past session (ask.csv port text) = queued past port
+granted past session (ask.remove port keys) = queued past port
+granted past session (ask.clear port) = queued past port
+granted past session (ask.close_port port) = body.PortClosed port
 granted past session (ask.apply port) = body.Applied port (taken past port + 1)
 granted past session (ask.open_view plan bound) =
     body.Opened 0 (shown past (opened_view session (opened past session) plan bound)) (opened past session)
 granted past session (ask.rows view first end) = window_of (held past session view) (shown past) view first end
+granted past session (ask.close view) = body.Closed view
 granted past session (ask.unread why) = body.Refused (bad_frame (frame_cause why))
 
 -- the answer of a history of at most `limit` steps, where memory is plenty

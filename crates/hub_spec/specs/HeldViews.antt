@@ -1,5 +1,5 @@
 -- The views that sessions hold, and what they show.
-use Rattle.std.specs.Prelude.{ℕ, ◌==◌, List, [], ◌∷◌, ◌++◌, map, length, find, Bool, true, false, not, ◌&&◌, Option, Some, None, is_none, if◌then◌else◌}
+use Rattle.std.specs.Prelude.{ℕ, ◌==◌, List, [], ◌∷◌, ◌++◌, filter, map, length, find, Bool, true, false, not, ◌&&◌, Option, Some, None, is_none, if◌then◌else◌}
 use Rattle.std.specs.List.{list_any}
 use Rattle.cell_core.specs.RawData.{RawData}
 use Rattle.cell_core.specs.declared.cell.Cell.{Cell}
@@ -33,7 +33,7 @@ pub record HeldView : Type 0 where
   pub lost : Option ℕ
 
 abbrev pub is_opened_in : ℕ → Answered → Bool
-is_opened_in session d = d.session == session && is_opened d.reply.body
+is_opened_in session d = is_opened d.reply.body && d.session == session
   where
     is_opened : Body → Bool
     is_opened (body.Opened edit shown view) = true
@@ -63,6 +63,8 @@ opened_view session number plan bound = record {
 abbrev pub with_view : List Answered → ℕ → Body → Ask → List HeldView → List HeldView
 with_view past session (body.Opened edit shown view) (ask.open_view plan bound) held = held ++ opened_view session view plan bound ∷ []
 with_view past session (body.AppliedLosing lost port seq) request held = map (lost_at (version_after past (body.AppliedLosing lost port seq)) lost) held
+with_view past session (body.Closed view) request held = filter (λ v. not (is_view session view v)) held
+with_view past session (body.Left closed) request held = filter (λ v. not (v.session == session)) held
 with_view past session _ request held = held
 
 -- the views that are held, in the order in which they were opened
@@ -72,6 +74,10 @@ views (d ∷ past) = with_view past d.session d.reply.body d.request (views past
 
 abbrev pub held : List Answered → ℕ → ℕ → Option HeldView
 held past session number = find (is_view session number) (views past)
+
+-- how many views the session holds
+abbrev pub held_by : List Answered → ℕ → ℕ
+held_by past session = length (filter (λ v. v.session == session) (views past))
 
 -- a view that is held and not lost
 abbrev pub is_live : List Answered → ℕ × ℕ → Bool

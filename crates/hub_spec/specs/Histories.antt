@@ -37,9 +37,13 @@ choice_of _ = plenty
 
 -- ---- which choices are allowed
 
--- this answer takes no memory: the line is no request, the history is full, or there is no table
+-- this answer takes no memory: something is closed or left, the line is no request, the history is
+-- full, or there is no table
 abbrev pub takes_none : Ask → Body → Bool
 takes_none (ask.unread why) answer = true
+takes_none (ask.close view) answer = true
+takes_none (ask.close_port port) answer = true
+takes_none ask.leave answer = true
 takes_none request (body.Refused why) = why.code == 11 || why.code == 21
 takes_none request answer = false
 

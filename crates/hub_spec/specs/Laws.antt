@@ -44,6 +44,7 @@ pub record IsUnchanged (past after : List Answered) : Type 0 where
   pub schema : history.schema after ≡ history.schema past
   pub ports : history.ports after ≡ history.ports past
   pub accepted : (port : ℕ) → history.accepted after port ≡ history.accepted past port
+  pub closed : (port : ℕ) → history.is_closed after port ≡ history.is_closed past port
   pub waiting : (port : ℕ) → history.waiting after port ≡ history.waiting past port
   pub version : history.version after ≡ history.version past
   pub rows : table.rows after ≡ table.rows past

@@ -1,8 +1,8 @@
 -- The table's schema, its ports, and the batches that were accepted, wait and were applied.
-use Rattle.std.specs.Prelude.{ℕ, suc, zero, ◌+◌, ◌==◌, nat_lt, List, [], ◌∷◌, ◌++◌, length, drop, sum_by, Bool, true, false, Option, Some, None, Result, Ok, Err, if◌then◌else◌}
+use Rattle.std.specs.Prelude.{ℕ, suc, zero, ◌+◌, ◌==◌, nat_lt, List, [], ◌∷◌, ◌++◌, length, drop, filter, Bool, true, false, not, ◌||◌, Option, Some, None, Result, Ok, Err, if◌then◌else◌}
+use Rattle.std.specs.List.{flat_map}
 use Rattle.cell_core.specs.Schemas.{SchemaData, schema_of}
 use Rattle.cell_core.specs.declared.schema.SchemaRefused.{SchemaRefused}
-use Rattle.row_batch.specs.Batches.{rows_in}
 use Rattle.row_batch.specs.declared.batch.Batch.{Batch}
 use Rattle.frame_types.specs.Asks.{Ask}
 use Rattle.frame_types.specs.Asks as ask
@@ -39,6 +39,14 @@ ports past = times (λ d. is_port d.reply.body) past
 abbrev pub has_port : List Answered → ℕ → Bool
 has_port past port = nat_lt port (ports past)
 
+abbrev pub closes : ℕ → Body → Bool
+closes port (body.PortClosed at) = at == port
+closes port _ = false
+
+abbrev pub is_closed : List Answered → ℕ → Bool
+is_closed [] port = false
+is_closed (d ∷ past) port = closes port d.reply.body || is_closed past port
+
 abbrev pub with_batch : Option Batch → List Batch → List Batch
 with_batch None batches = batches
 with_batch (Some b) batches = batches ++ b ∷ []
@@ -65,10 +73,21 @@ taken past port = times (λ d. takes_from port d.reply.body) past
 abbrev pub waiting : List Answered → ℕ → List Batch
 waiting past port = drop (taken past port) (accepted past port)
 
--- how many rows wait on the ports below a number
-abbrev pub rows_waiting : List Answered → ℕ → ℕ
-rows_waiting past zero = 0
-rows_waiting past (suc port) = rows_waiting past port + sum_by rows_in (waiting past port)
+-- the numbers below n, ascending
+abbrev pub numbers_below : ℕ → List ℕ
+numbers_below zero = []
+numbers_below (suc n) = numbers_below n ++ n ∷ []
+
+-- a port that is open or holds waiting batches
+abbrev pub is_used : List Answered → ℕ → Bool
+is_used past port = not (is_closed past port) || nat_lt 0 (length (waiting past port))
+
+abbrev pub used_ports : List Answered → List ℕ
+used_ports past = filter (is_used past) (numbers_below (ports past))
+
+-- the batches that wait on all ports, port by port
+abbrev pub all_waiting : List Answered → List Batch
+all_waiting past = flat_map (waiting past) (numbers_below (ports past))
 
 -- ---- applied batches
 

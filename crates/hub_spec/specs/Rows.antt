@@ -1,5 +1,5 @@
 -- The table's rows: what the applied batches made of an empty table, and nothing else.
-use Rattle.std.specs.Prelude.{List, [], fold, Option, unwrap_or}
+use Rattle.std.specs.Prelude.{List, [], fold, unwrap_or}
 use Rattle.cell_core.specs.Schemas.{SchemaData}
 use Rattle.cell_core.specs.declared.schema.Keeping.TheVariants.{Free}
 use Rattle.row_batch.specs.Batches.{Store, empty_store, put_batch}

@@ -20,4 +20,11 @@ pub trait Caller {
         ensures steps { (h : List Entry) → stands self.old h
             → Steps (limit self.old) h session (request_view request) result (stands self.new) }
         ensures limit { limit self.new ≡ limit self.old };
+
+    /// Returns once the view that the session holds under a number may have changed. It asks
+    /// nothing, so it is no step.
+    fn await_change(&mut self, session: u32, view: u64)
+        requires { session ≤ 65 }
+        ensures stands { (h : List Entry) → stands self.old h → stands self.new h }
+        ensures limit { limit self.new ≡ limit self.old };
 }

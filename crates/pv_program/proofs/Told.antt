@@ -1,12 +1,11 @@
 -- What the status says, from how the script ended.
-use Rattle.std.proofs.Common.{◌≡◌, ℕ, ◌+◌, ◌^◌, ◌<◌, ◌≤◌, Bool, true, false, cond, List, [], ◌∷◌, ◌++◌, length, take, map, Option, inl, inr, refl, sym, ap, arith}
+use Rattle.std.proofs.Common.{◌≡◌, ℕ, ◌+◌, ◌^◌, ◌≤◌, Bool, true, false, cond, List, [], ◌∷◌, length, Option, inl, inr, refl, arith}
 use Rattle.std.proofs.KnownBytes.{Consumes-nil, Appends-nil}
-use Rattle.std.specs.Io.KnownBytes.{IsAtEnd}
-use Rattle.io_ends.specs.Lines.{lines, ended_lines}
+use Rattle.io_ends.specs.Lines.{lines}
 use Rattle.std.specs.Bool.{◌==◌}
 use Rattle.std.specs.List.{onto_first}
 use Rattle.session_core.proofs.HistoryLemmas.{tell_histories}
-use Rattle.session_core.specs.Answers.{Answers, PartlyAnswers}
+use Rattle.session_core.specs.Answers.{PartlyAnswers}
 use Rattle.session_core.specs.Outcome.{Moved, Outcome}
 use Rattle.session_core.specs.declared.script.ScriptEnd.{ScriptEnd}
 use Rattle.session_core.specs.declared.script.ScriptEnd.TheVariants.{Done, Memory, TooLong, ReadFault, WriteFault}

@@ -73,7 +73,11 @@ fn scripts_are_answered_to_the_byte(rt: HostRuntime) -> Result<(), Fail> {
         ),
         (
             "{\"op\":\"info\"}\n",
-            "{\"at\":[],\"cause\":\"unbuilt\",\"code\":1,\"is\":\"refused\",\"n\":1,\"version\":0}\n",
+            "{\"at\":[],\"cause\":\"no table\",\"code\":21,\"is\":\"refused\",\"n\":1,\"version\":0}\n",
+        ),
+        (
+            "{\"op\":\"leave\",\"session\":7}\n",
+            "{\"closed\":0,\"is\":\"left\",\"n\":1,\"version\":0}\n",
         ),
         (
             "{\"op\":\"app",
@@ -126,6 +130,164 @@ fn the_last_of_some_lines_is_answered_so(rt: HostRuntime) -> Result<(), Fail> {
     Ok(())
 }
 
+/// The last reply line to these lines.
+fn ends_with(alloc: Global, lines: &str, want: &str) -> Result<bool, Memory> {
+    let run = whole(alloc, lines)?;
+    Ok(run.code == 0 && run.sink.bytes().ends_with(want.as_bytes()))
+}
+
+#[test]
+fn every_kind_of_table_is_filled(rt: HostRuntime) -> Result<(), Fail> {
+    let cases = [
+        (
+            "{\"op\":\"table\",\"columns\":[[\"d\",\"date\"]]}\n{\"op\":\"port\"}\n{\"op\":\"update\",\"port\":0,\"rows\":[{\"d\":\"2023-02-29\"}]}\n",
+            "\n{\"at\":[0,0],\"cause\":\"date\",\"code\":7,\"is\":\"refused\",\"n\":3,\"version\":0}\n",
+        ),
+        (
+            "{\"op\":\"table\",\"columns\":[[\"v\",\"integer\"]],\"limit\":3}\n{\"op\":\"port\"}\n{\"op\":\"update\",\"port\":0,\"rows\":{\"v\":[0,1,2,3,4]}}\n{\"op\":\"apply\",\"port\":0}\n{\"op\":\"open\",\"plan\":{}}\n",
+            "\"rows\":[[[\"r\",0],{\"v\":3}],[[\"r\",1],{\"v\":4}],[[\"r\",2],{\"v\":2}]],\"version\":1,\"view\":0}\n",
+        ),
+        (
+            "{\"op\":\"table\",\"columns\":[[\"s\",\"string\"],[\"b\",\"boolean\"],[\"d\",\"date\"],[\"t\",\"datetime\"]]}\n{\"op\":\"port\"}\n{\"op\":\"update\",\"port\":0,\"rows\":[{\"s\":\"x\",\"b\":true,\"d\":\"2024-02-29\",\"t\":\"1970-01-01T00:00:01.5Z\"}]}\n{\"op\":\"apply\",\"port\":0}\n{\"op\":\"open\",\"plan\":{}}\n",
+            "\"rows\":[[[\"r\",0],{\"b\":true,\"d\":[\"d\",\"2024-02-29\"],\"s\":\"x\",\"t\":[\"t\",1500]}]],\"version\":1,\"view\":0}\n",
+        ),
+        (
+            "{\"op\":\"table\",\"columns\":[[\"v\",\"integer\"]],\"limit\":65537}\n",
+            "{\"at\":[],\"cause\":\"limit\",\"code\":3,\"is\":\"refused\",\"n\":1,\"version\":0}\n",
+        ),
+        (
+            "{\"op\":\"table\",\"columns\":[[\"v\",\"integer\"]],\"limit\":3}\n{\"op\":\"table\",\"columns\":[]}\n",
+            "\n{\"at\":[],\"cause\":\"table set\",\"code\":2,\"is\":\"refused\",\"n\":2,\"version\":0}\n",
+        ),
+        (
+            "{\"op\":\"table\",\"columns\":[[\"v\",\"integer\"]],\"limit\":3}\n{\"op\":\"port\"}\n{\"op\":\"remove\",\"port\":0,\"keys\":[0]}\n",
+            "\n{\"at\":[],\"cause\":\"not indexed\",\"code\":8,\"is\":\"refused\",\"n\":3,\"version\":0}\n",
+        ),
+    ];
+    for (lines, want) in cases {
+        assert!(rt; ends_with(rt.alloc(), lines, want)?, "{lines}");
+    }
+    Ok(())
+}
+
+#[test]
+fn batches_of_every_kind_are_queued_and_applied(rt: HostRuntime) -> Result<(), Fail> {
+    let cases = [
+        (
+            "{\"op\":\"port\"}\n{\"op\":\"csv\",\"port\":0,\"text\":\"k,v\\n1,7\\n2,\\n\"}\n{\"op\":\"apply\",\"port\":0}\n{\"op\":\"update\",\"port\":0,\"rows\":[{\"k\":1,\"v\":1},{\"k\":2,\"v\":1.5}]}\n",
+            "\n{\"at\":[1,1],\"cause\":\"type\",\"code\":7,\"is\":\"refused\",\"n\":5,\"version\":1}\n",
+        ),
+        (
+            "{\"op\":\"port\"}\n{\"op\":\"csv\",\"port\":0,\"text\":\"k,v\\n1,7\\n2,\\n\"}\n{\"op\":\"remove\",\"port\":0,\"keys\":[1,9]}\n{\"op\":\"apply\",\"port\":0}\n{\"op\":\"apply\",\"port\":0}\n{\"op\":\"open\",\"plan\":{}}\n",
+            "\"rows\":[[[\"r\",2],{\"k\":2}]],\"version\":2,\"view\":0}\n",
+        ),
+        (
+            "{\"op\":\"port\"}\n{\"op\":\"update\",\"port\":0,\"rows\":[{\"k\":1,\"v\":7}]}\n{\"op\":\"replace\",\"port\":0,\"rows\":[{\"k\":3}]}\n{\"op\":\"apply\",\"port\":0}\n{\"op\":\"apply\",\"port\":0}\n{\"op\":\"open\",\"plan\":{}}\n",
+            "\"rows\":[[[\"r\",3],{\"k\":3}]],\"version\":2,\"view\":0}\n",
+        ),
+        (
+            "{\"op\":\"port\"}\n{\"op\":\"update\",\"port\":0,\"rows\":[{\"k\":1,\"v\":7}]}\n{\"op\":\"clear\",\"port\":0}\n{\"op\":\"apply\",\"port\":0}\n{\"op\":\"apply\",\"port\":0}\n{\"op\":\"info\"}\n",
+            "\n{\"columns\":[[\"k\",\"integer\"],[\"v\",\"integer\"]],\"index\":\"k\",\"is\":\"info\",\"n\":7,\"size\":0,\"version\":2,\"waiting\":0}\n",
+        ),
+    ];
+    for (lines, want) in cases {
+        assert!(rt; last_is(rt.alloc(), lines, want)?, "{lines}");
+    }
+    Ok(())
+}
+
+#[test]
+fn ports_close_and_drain(rt: HostRuntime) -> Result<(), Fail> {
+    let cases = [
+        (
+            "{\"op\":\"port\"}\n{\"op\":\"clear\",\"port\":0}\n{\"op\":\"close_port\",\"port\":0}\n{\"op\":\"clear\",\"port\":0}\n",
+            "\n{\"is\":\"port_closed\",\"n\":4,\"port\":0,\"version\":0}\n{\"at\":[],\"cause\":\"port closed\",\"code\":6,\"is\":\"refused\",\"n\":5,\"version\":0}\n",
+        ),
+        (
+            "{\"op\":\"port\"}\n{\"op\":\"clear\",\"port\":0}\n{\"op\":\"close_port\",\"port\":0}\n{\"op\":\"apply\",\"port\":0}\n{\"op\":\"apply\",\"port\":0}\n",
+            "\n{\"is\":\"applied\",\"n\":5,\"port\":0,\"seq\":1,\"version\":1}\n{\"at\":[],\"cause\":\"empty\",\"code\":12,\"is\":\"refused\",\"n\":6,\"version\":1}\n",
+        ),
+        (
+            "{\"op\":\"port\"}\n{\"op\":\"port\"}\n{\"op\":\"clear\",\"port\":0}\n{\"op\":\"clear\",\"port\":0}\n{\"op\":\"clear\",\"port\":1}\n{\"op\":\"apply\",\"port\":1}\n{\"op\":\"apply\",\"port\":0}\n{\"op\":\"apply\",\"port\":0}\n",
+            "\n{\"is\":\"applied\",\"n\":7,\"port\":1,\"seq\":1,\"version\":1}\n{\"is\":\"applied\",\"n\":8,\"port\":0,\"seq\":1,\"version\":2}\n{\"is\":\"applied\",\"n\":9,\"port\":0,\"seq\":2,\"version\":3}\n",
+        ),
+        (
+            "{\"op\":\"apply\",\"port\":0}\n",
+            "\n{\"at\":[],\"cause\":\"no port\",\"code\":5,\"is\":\"refused\",\"n\":2,\"version\":0}\n",
+        ),
+    ];
+    for (lines, want) in cases {
+        assert!(rt; last_is(rt.alloc(), lines, want)?, "{lines}");
+    }
+    Ok(())
+}
+
+#[test]
+fn views_belong_to_sessions(rt: HostRuntime) -> Result<(), Fail> {
+    let cases = [
+        (
+            "{\"op\":\"open\",\"plan\":{}}\n{\"from\":0,\"op\":\"rows\",\"session\":1,\"to\":1,\"view\":0}\n",
+            "\n{\"at\":[],\"cause\":\"no view\",\"code\":15,\"is\":\"refused\",\"n\":1,\"version\":0}\n",
+        ),
+        (
+            "{\"op\":\"open\",\"plan\":{}}\n{\"op\":\"open\",\"plan\":{},\"session\":1}\n{\"op\":\"leave\"}\n{\"op\":\"close\",\"session\":1,\"view\":0}\n",
+            "\n{\"closed\":1,\"is\":\"left\",\"n\":3,\"version\":0}\n{\"is\":\"closed\",\"n\":2,\"version\":0,\"view\":0}\n",
+        ),
+        (
+            "{\"op\":\"open\",\"plan\":{}}\n{\"op\":\"close\",\"view\":0}\n{\"op\":\"close\",\"view\":0}\n{\"op\":\"open\",\"plan\":{}}\n",
+            "\n{\"at\":[],\"cause\":\"no view\",\"code\":15,\"is\":\"refused\",\"n\":4,\"version\":0}\n{\"edit\":0,\"header\":[[\"k\",\"integer\"],[\"v\",\"integer\"]],\"is\":\"opened\",\"n\":5,\"rows\":[],\"version\":0,\"view\":1}\n",
+        ),
+        (
+            "{\"op\":\"open\",\"plan\":{}}\n{\"op\":\"rows\",\"view\":0,\"from\":2,\"to\":1}\n",
+            "\n{\"at\":[2,1],\"cause\":\"window\",\"code\":20,\"is\":\"refused\",\"n\":3,\"version\":0}\n",
+        ),
+    ];
+    for (lines, want) in cases {
+        assert!(rt; last_is(rt.alloc(), lines, want)?, "{lines}");
+    }
+    Ok(())
+}
+
+/// The schema, and then one line so many times.
+fn repeated(alloc: Global, first: &str, line: &str, times: usize) -> Result<String, Memory> {
+    let mut input = String::from_str(alloc, SCHEMA)?;
+    input.push_str(first)?;
+    for _ in 0..times {
+        input.push_str(line)?;
+    }
+    Ok(input)
+}
+
+#[test]
+fn sixty_four_batches_wait_and_sixteen_ports_and_views_stand(rt: HostRuntime) -> Result<(), Fail> {
+    let alloc = rt.alloc();
+    let cases = [
+        (
+            "{\"op\":\"port\"}\n",
+            "{\"op\":\"clear\",\"port\":0}\n",
+            65,
+            "\n{\"at\":[64],\"cause\":\"port full\",\"code\":9,\"is\":\"refused\",\"n\":67,\"version\":0}\n",
+        ),
+        (
+            "",
+            "{\"op\":\"port\"}\n",
+            17,
+            "\n{\"at\":[16],\"cause\":\"too many ports\",\"code\":4,\"is\":\"refused\",\"n\":18,\"version\":0}\n",
+        ),
+        (
+            "",
+            "{\"op\":\"open\",\"plan\":{}}\n",
+            17,
+            "\n{\"at\":[16],\"cause\":\"too many views\",\"code\":14,\"is\":\"refused\",\"n\":18,\"version\":0}\n",
+        ),
+    ];
+    for (first, line, times, want) in cases {
+        let input = repeated(alloc, first, line, times)?;
+        assert!(rt; ends_with(alloc, input.as_str(), want)?, "{want}");
+    }
+    Ok(())
+}
+
 /// A line of so many bytes, all of them blanks.
 fn blanks(alloc: Global, count: usize) -> Result<Vec<u8>, Memory> {
     let mut line = Vec::new(alloc);
@@ -138,7 +300,7 @@ fn blanks(alloc: Global, count: usize) -> Result<Vec<u8>, Memory> {
 
 #[test]
 fn a_line_has_at_most_a_mebibyte(rt: HostRuntime) -> Result<(), Fail> {
-    let cases = [(1_048_576, "json"), (1_048_577, "unbuilt")];
+    let cases = [(1_048_576, "json"), (1_048_577, "long")];
     for (count, cause) in cases {
         let line = blanks(rt.alloc(), count)?;
         let run = script(rt.alloc(), line.as_slice(), 65_536, 0, 0)?;

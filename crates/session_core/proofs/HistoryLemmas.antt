@@ -1,13 +1,13 @@
 -- The history behind a run of requests.
-use Rattle.std.proofs.Common.{◌≡◌, ℕ, ◌+◌, ◌≤◌, ◌<◌, nat_le, Bool, true, false, cond, List, [], ◌∷◌, ◌++◌, map, length, refl, sym, ap, ◌∙◌, subst, append_assoc, append-nil, arith}
+use Rattle.std.proofs.Common.{◌≡◌, ℕ, ◌+◌, ◌≤◌, ◌<◌, nat_le, false, List, [], ◌∷◌, ◌++◌, map, length, refl, sym, ap, ◌∙◌, subst, append_assoc, append-nil, arith}
 use Rattle.std.proofs.lemmas.Bool.Decides.{nat_tests}
 use Rattle.std.proofs.lemmas.List.{length-map}
 use Rattle.frame_types.specs.Asks.{Ask}
 use Rattle.frame_types.specs.declared.reply.Reply.{Reply}
 use Rattle.hub_spec.specs.Histories.{Entry, IsLegal, answered, followed, told}
-use Rattle.hub_spec.specs.Runs.{IsAnswer, Ran}
-use Rattle.session_core.specs.Answers.{Answers, asked_of, reply_lines, script_limit}
-use Rattle.session_core.specs.Histories.{requests_of, replies_of, TellsHistory, AnswersTellHistories}
+use Rattle.hub_spec.specs.Runs.{Ran}
+use Rattle.session_core.specs.Answers.{asked_of, reply_lines, script_limit}
+use Rattle.session_core.specs.Histories.{requests_of, replies_of, AnswersTellHistories}
 
 -- a history that isn't full takes the step
 followed_by : (limit : ℕ) (h : List Entry) (e : Entry) → length h < limit → followed limit h e ≡ e ∷ h

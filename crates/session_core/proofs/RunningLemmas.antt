@@ -1,11 +1,10 @@
 -- Steps of a running script.
-use Rattle.std.proofs.Common.{◌≡◌, ℕ, ◌+◌, ◌-◌, ◌^◌, ◌<◌, ◌≤◌, ltb, Bool, true, false, List, [], ◌∷◌, ◌++◌, map, take, length, min, Option, Some, None, Result, Ok, Err, inl, inr, refl, sym, ap, ◌∙◌, subst, append_assoc, append-nil, length-append, arith}
-use Rattle.std.proofs.KnownBytes.{Consumes-nil, Appends-nil, Consumes-trans, Appends-trans, Appends-kept}
+use Rattle.std.proofs.Common.{◌≡◌, ℕ, ◌+◌, ◌-◌, ◌^◌, ◌<◌, ◌≤◌, ltb, Bool, true, false, List, [], ◌∷◌, ◌++◌, map, take, length, min, Option, Some, None, Result, Err, inl, refl, sym, ap, ◌∙◌, subst, append_assoc, append-nil, length-append, arith}
+use Rattle.std.proofs.KnownBytes.{Consumes-nil, Appends-nil, Consumes-trans, Appends-trans}
 use Rattle.std.proofs.lemmas.Bool.Decides.{nat_tests}
 use Rattle.std.proofs.Math.Seq.{take-append-add}
 use Rattle.std.proofs.lemmas.List.{take_all}
-use Rattle.std.specs.Io.KnownBytes.{Appends, Consumes, IsAtEnd, Keeps}
-use Rattle.std.specs.List.{flat_map}
+use Rattle.std.specs.Io.KnownBytes.{Appends, Consumes, IsAtEnd}
 use Rattle.io_ends.specs.Lines.{lines, ended_lines, NoEnd, lines_at, lines_one, ended_at, ended_none}
 use Rattle.io_ends.specs.Reading.{ReaderState, IsFirst, Gives, LeavesNone, IsWithin, Takes}
 use Rattle.io_ends.specs.declared.line.Line.{Line}
@@ -18,14 +17,14 @@ use Rattle.hub_spec.specs.Histories.{Entry, followed, told}
 use Rattle.hub_spec.specs.Runs.{IsAnswer, Ran}
 use Rattle.session_core.specs.Answers.{Answered, Answers, PartlyAnswers, PartOf, PartOfNext, asked_in, asked_of, reply_line, reply_lines, script_limit}
 use Rattle.frame_json.specs.Requests.{unread_by}
-use Rattle.frame_types.specs.declared.request.FrameCause.TheVariants.{Unbuilt}
+use Rattle.frame_types.specs.declared.request.FrameCause.TheVariants as frame
 use Rattle.session_core.specs.declared.script.Fault.{Fault}
 use Rattle.session_core.specs.declared.script.Fault.TheVariants as stop
 use Rattle.io_ends.specs.declared.sink.SinkFault.{SinkFault}
 use Rattle.io_ends.specs.declared.sink.SinkFault.TheVariants as sunk
 use Rattle.session_core.specs.Faults.{of_line, of_sink, fault_end}
 use Rattle.session_core.specs.Outcome.{Moved, Outcome}
-use Rattle.session_core.specs.Running.{Cut, IsRunning, Runs, counted}
+use Rattle.session_core.specs.Running.{Cut, IsRunning, Runs}
 
 -- ---- runs of requests
 
@@ -234,7 +233,7 @@ with_text before left left' into written reader reader' Stands came more done re
   appended = run.appended;
 }
 
-unread_long : (text : List ℕ) → 1048576 < length text → unread_by Unbuilt ≡ asked_of text
+unread_long : (text : List ℕ) → 1048576 < length text → unread_by frame.Long ≡ asked_of text
 unread_long text h = let long : ltb 1048576 (length text) ≡ true = grind (arith, nat_tests) in rw long refl
 
 -- a line that asks something
@@ -249,8 +248,8 @@ reads_line before left left' into written reader reader' Stands came more done r
     let still = still_open reader.ended reader.held left came done run.cut (λ e n. let wrong : line.Long ≡ line.End = (read.after_end e n).0 in cc) in
     let text : List ℕ = read.gives.0 in
     let long : reader.longest < length text = read.gives.1 in
-    let is : Some (unread_by Unbuilt) ≡ Some q = asks in
-    let same : unread_by Unbuilt ≡ asked_of text = unread_long text (omega arith) in
+    let is : Some (unread_by frame.Long) ≡ Some q = asks in
+    let same : unread_by frame.Long ≡ asked_of text = unread_long text (omega arith) in
     (text, (cc), with_text before left left' into written reader reader' Stands came more done replies now text run still read.consumes read.grows read.gives.2 read.last read.takes)
 reads_line before left left' into written reader reader' Stands came more done replies now line.End q longest run read asks =
     absurd (let wrong : None ≡ Some q = asks in cc)
@@ -261,7 +260,7 @@ pub reads_end : (before left left' into written : Option (List ℕ)) (reader rea
     → IsRunning before left into written reader Stands came done done replies now → Reads left left' reader reader' l more → asked_in l ≡ None
     → IsRunning before left' into written reader' Stands (came ++ more) done done replies now
 reads_end before left left' into written reader reader' Stands came more done replies now (line.Words text) run read asks = absurd (let wrong : Some (asked_of text) ≡ None = asks in cc)
-reads_end before left left' into written reader reader' Stands came more done replies now line.Long run read asks = absurd (let wrong : Some (unread_by Unbuilt) ≡ None = asks in cc)
+reads_end before left left' into written reader reader' Stands came more done replies now line.Long run read asks = absurd (let wrong : Some (unread_by frame.Long) ≡ None = asks in cc)
 reads_end before left left' into written reader reader' Stands came more done replies now line.End run read asks =
     let none : more ≡ [] = nothing_more reader.held more read.gives.0 in
     let all : came ++ more ≡ came = ap (λ bs. came ++ bs) none ∙ append-nil came in

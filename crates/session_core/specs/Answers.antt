@@ -4,7 +4,7 @@ use Rattle.std.specs.List.{flat_map}
 use Rattle.io_ends.specs.declared.line.Line.{Line}
 use Rattle.io_ends.specs.declared.line.Line.TheVariants.{Words, Long, End}
 use Rattle.frame_types.specs.Asks.{Ask}
-use Rattle.frame_types.specs.declared.request.FrameCause.TheVariants.{Unbuilt}
+use Rattle.frame_types.specs.declared.request.FrameCause.TheVariants as frame
 use Rattle.frame_types.specs.declared.reply.Reply.{Reply}
 use Rattle.frame_json.specs.Requests.{request_of, unread_by}
 use Rattle.frame_json.specs.Replies.{text}
@@ -23,7 +23,7 @@ asked_of line = request_of line true
 -- of a line that was read; a long line was not kept, and is no request in any case
 abbrev pub asked_in : Line → Option (ℕ × Ask)
 asked_in (Words line) = Some (asked_of line)
-asked_in Long = Some (unread_by Unbuilt)
+asked_in Long = Some (unread_by frame.Long)
 asked_in End = None
 
 -- a reply line: the reply's text and byte 10

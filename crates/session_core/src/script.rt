@@ -198,7 +198,7 @@ fn asked_by(alloc: Global, line: Line) -> Result<Option<Asked>, Memory>
         }
         Line::Long => Ok(Some(Asked {
             session: 0,
-            request: Request::Unread(FrameCause::Unbuilt),
+            request: Request::Unread(FrameCause::Long),
         })),
         Line::End => Ok(None),
     }

@@ -1,4 +1,4 @@
-use Rattle.std.proofs.Common.{◌≡◌, ℕ, sym, subst}
+use Rattle.std.proofs.Common.{ℕ, sym, subst}
 use Rattle.session_core.specs.Outcome.{Outcome}
 use Rattle.pv_program.specs.Statuses.{StatusSays}
 use Rattle.pv_program.proofs.Told.{nothing_moved, wrong_words, without_memory, moved, status_says}

@@ -1,8 +1,8 @@
-use Rattle.std.proofs.Common.{◌≡◌, ℕ, ◌+◌, ◌^◌, ◌≤◌, Bool, true, false, not, length, refl, sym, ap, ◌∙◌, arith, rules}
+use Rattle.std.proofs.Common.{◌≡◌, ◌+◌, ◌^◌, ◌≤◌, true, false, sym, ap, ◌∙◌, arith, rules}
 use Rattle.std.proofs.lemmas.Result.{err_from_is_err_and}
 use Rattle.std.proofs.KnownBytes.{Appends-kept}
 use Rattle.session_core.specs.Answers.{reply_lines}
-use Rattle.session_core.specs.Running.{Runs, counted}
+use Rattle.session_core.specs.Running.{counted}
 use Rattle.session_core.proofs.RunningLemmas.{starts, fresh, finished, unfinished}
 use Rattle.session_core.proofs.script.answer_lines.Goals as goal
 

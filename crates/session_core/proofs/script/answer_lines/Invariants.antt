@@ -1,4 +1,4 @@
-use Rattle.std.proofs.Common.{◌≡◌, ◌+◌, ◌-◌, ◌^◌, ◌≤◌, ℕ, false, length}
+use Rattle.std.proofs.Common.{◌≡◌, ◌+◌, ◌-◌, ◌^◌, ◌≤◌, false, length}
 use Rattle.session_core.specs.Answers.{script_limit}
 use Rattle.session_core.specs.Running.{Runs}
 use Rattle.session_core.proofs.script.answer_lines.Given as goal

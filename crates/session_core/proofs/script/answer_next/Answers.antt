@@ -1,16 +1,8 @@
-use Rattle.std.proofs.Common.{◌≡◌, ℕ, ◌+◌, ◌^◌, ◌≤◌, List, [], ◌∷◌, ◌++◌, length, Option, Some, None, true, false, Ok, Err, option_map, refl, sym, ap, ◌∙◌, subst, append-nil, length-append, arith}
+use Rattle.std.proofs.Common.{◌≡◌, ℕ, ◌+◌, ◌^◌, ◌≤◌, [], ◌∷◌, ◌++◌, Some, None, Err, option_map, sym, ap, ◌∙◌, subst, length-append, arith}
 use Rattle.std.proofs.lemmas.Result.{err_from_is_err_and}
-use Rattle.std.proofs.KnownBytes.{Consumes-trans, Appends-trans}
-use Rattle.io_ends.specs.Lines.{lines}
-use Rattle.io_ends.specs.Reading.{ReaderState}
-use Rattle.io_ends.specs.declared.line.Line.{Line}
-use Rattle.io_ends.specs.declared.line.Line.TheVariants.{End}
+use Rattle.std.proofs.KnownBytes.{Appends-trans}
 use Rattle.frame_types.specs.Asks.{Ask, asked_view}
-use Rattle.frame_types.specs.declared.request.Asked.{Asked}
-use Rattle.frame_types.specs.declared.reply.Reply.{Reply}
-use Rattle.hub_spec.specs.Histories.{Entry}
 use Rattle.session_core.specs.Answers.{Answered, asked_in, reply_lines, script_limit, PartOf}
-use Rattle.session_core.specs.Running.{IsRunning, Runs}
 use Rattle.session_core.proofs.RunningLemmas.{Reads, still_open, fails, reads_line, reads_end, lost, stops, stopped, answers}
 use Rattle.session_core.proofs.script.answer_next.Goals as goal
 

@@ -5,4 +5,4 @@ use Rattle.hub_core.proofs.machine.Machine.new.Goals as goal
 
 pub returns : goal.returns
 returns c =
-    fresh_holds _ refl refl c.new.ensures.items c.new-2.ensures.items refl (λ session lt. get_or-replicate 66 session 0 0 lt)
+    fresh_holds _ refl refl c.new.ensures c.new-2.ensures.items refl (λ session lt. get_or-replicate 66 session 0 0 lt)

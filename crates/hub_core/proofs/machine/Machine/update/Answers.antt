@@ -1,22 +1,24 @@
-use Rattle.std.proofs.Common.{◌≡◌, true, Some, sym, ap, ◌∙◌, subst, arith}
+use Rattle.std.proofs.Common.{◌≡◌, Ok, refl, sym, ap, ◌∙◌}
 use Rattle.cell_core.specs.RawViews.{raw_view}
-use Rattle.json_rows.specs.Reading.{patches_of}
+use Rattle.row_batch.specs.declared.batch.Batch.TheVariants as batch
 use Rattle.frame_types.specs.Asks as ask
-use Rattle.frame_types.specs.declared.reply.Body.{Body}
-use Rattle.hub_spec.specs.Ports as ports
-use Rattle.hub_core.specs.Holding.{DoesBy}
-use Rattle.hub_core.specs.Tables.{schema_in}
-use Rattle.hub_core.proofs.QueueDeeds.{has_port, may_queue, update_is, update_asks}
+use Rattle.hub_ports.specs.Ports.{port_at}
+use Rattle.json_rows.specs.Reading.{read_rows}
+use Rattle.hub_core.specs.Holding.{plain_in, rows_answer}
+use Rattle.hub_core.proofs.PortDeeds.{read_asks, rows_plain, may_put_rows, at_number, by_plain}
 use Rattle.hub_core.proofs.machine.Machine.update.Goals as goal
 
-pub returns-in-Ok-Some : goal.returns-in-Ok-Some
-returns-in-Ok-Some c = λ past h few session.
-    let raw = raw_view c.args.rows in
-    let schema = c.in-Some.table.schema in
-    let patches = c.in-Ok-Some.patches in
-    let some : ports.schema past ≡ Some schema = sym h.table.schema ∙ ap schema_in c.in-Some.is in
-    let has : ports.has_port past c.args.port ≡ true = has_port c.args.self.now past c.args.port h (omega arith) in
-    let read : patches_of schema raw ≡ Some patches = ap (λ s. patches_of s raw) (sym c.schema.ensures) ∙ sym c.in-Ok-Some.ensures.found ∙ c.in-Ok-Some.field-0-is in
-    let DoesAs : Body → Type 0 = λ plain. DoesBy plain past session (ask.update c.args.port raw) c.queue_batch.result c.queue_batch.new.self in
-    subst DoesAs (sym (update_is past session c.args.port raw schema patches some has read))
-    (c.queue_batch.ensures past h few session (ask.update c.args.port raw) (update_asks past c.args.port raw schema patches some read) (may_queue past c.args.port raw _ _ _))
+pub returns-in-Ok : goal.returns-in-Ok
+returns-in-Ok c = λ past h few session.
+    let m = c.args.self.now in
+    let t = c.in_ok-table.table.now in
+    let port = c.args.port in
+    let request = ask.update port (raw_view c.args.rows) in
+    let good : read_rows t.schema (raw_view c.args.rows) ≡ Ok c.in-Ok.patches = ap (λ s. read_rows s (raw_view c.args.rows)) (sym c.schema.ensures) ∙ c.in-Ok.ensures.ok in
+    let plain : plain_in past session request ≡ rows_answer past port (batch.Update c.in-Ok.patches) =
+    rows_plain m past request port (plain_in past session request) t batch.Update (read_rows t.schema (raw_view c.args.rows)) c.in-Ok.patches h c.in_ok-table.ensures.ok refl (c.in_ok-place.ensures.ok past h) refl good in
+    let asked = read_asks m past request t batch.Update (read_rows t.schema (raw_view c.args.rows)) c.in-Ok.patches h c.in_ok-table.ensures.ok refl good in
+    let number = (port_at m.ports.live c.in_ok-place.place).number in
+    by_plain past session request _ _ _ _ plain
+    (at_number past session port number request _ _ (batch.Update c.in-Ok.patches) c.in_ok-place.ensures.number
+    (c.queue_rows.ensures past h few c.in_ok-place.ensures.open session request asked (may_put_rows past request number (batch.Update c.in-Ok.patches) (λ answer. refl))))
