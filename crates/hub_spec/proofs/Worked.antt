@@ -369,6 +369,9 @@ its_number_is_not_used_again = refl
 pub another_session_closes_none : answer roomy with_view (by 1 (ask.close 0) plenty) ≡ reply 1 1 (body.Refused no_view)
 another_session_closes_none = refl
 
+pub another_sessions_view_stays : answer roomy (by 1 (ask.close 0) plenty ∷ by 1 open_all plenty ∷ with_view) (asks (ask.close 0)) ≡ reply 6 1 (body.Closed 0)
+another_sessions_view_stays = refl
+
 pub a_session_leaves : answer roomy (asks open_all ∷ with_view) (asks ask.leave) ≡ reply 7 1 (body.Left 2)
 a_session_leaves = refl
 
