@@ -199,6 +199,9 @@ second_view = refl
 pub other_plan : answer roomy with_rows (asks (ask.open_view (raw_map (raw_member (codes "sort") (raw_list no_raw_items) no_raw_members)) 10)) ≡ reply 5 1 refused_unbuilt
 other_plan = refl
 
+pub other_plan_counts_in_its_session : answer roomy with_rows (by 1 (ask.open_view (raw_map (raw_member (codes "sort") (raw_list no_raw_items) no_raw_members)) 10) plenty) ≡ reply 1 1 refused_unbuilt
+other_plan_counts_in_its_session = refl
+
 pub view_not_given : answer roomy with_view (asks (ask.rows 1 0 2)) ≡ reply 6 1 (body.Refused no_view)
 view_not_given = refl
 
@@ -282,6 +285,9 @@ sixty_fourth_waits = refl
 pub sixty_fifth_does_not : answer roomy (queued 64 0 with_port) (asks (update (raw_list no_raw_items))) ≡ reply 67 0 (body.Refused port_full)
 sixty_fifth_does_not = refl
 
+pub bad_rows_on_a_full_port : answer roomy (queued 64 0 with_port) (asks (update (one_row (only_k (pos 9007199254740992))))) ≡ reply 67 0 (refused_rows (record { cause = row.Range; at = Two 0 0 }))
+bad_rows_on_a_full_port = refl
+
 -- a table without an index: one live row and 64,512 that wait
 abbrev with_free_port : List Entry
 with_free_port = asks ask.port ∷ asks (ask.table (integer_column (codes "k") ∷ []) None None) ∷ []
@@ -325,6 +331,9 @@ closed_is_closed = refl
 pub closed_is_applied : answer roomy closing (asks (ask.apply 0)) ≡ reply 5 1 (body.Applied 0 1)
 closed_is_applied = refl
 
+pub drained_is_empty : answer roomy (asks (ask.apply 0) ∷ closing) (asks (ask.apply 0)) ≡ reply 6 1 (body.Refused empty)
+drained_is_empty = refl
+
 pub next_port_is_new : answer roomy closing (asks ask.port) ≡ reply 5 0 (body.Port 1)
 next_port_is_new = refl
 
@@ -342,10 +351,23 @@ seventeen_ports = refl
 pub one_closed_and_one_more : answer roomy (asks (ask.close_port 3) ∷ many_ports 16) (asks ask.port) ≡ reply 19 0 (body.Port 16)
 one_closed_and_one_more = refl
 
+-- a closed port keeps its place until its last batch is applied
+abbrev one_closing : List Entry
+one_closing = asks (ask.close_port 3) ∷ asks (ask.clear 3) ∷ many_ports 16
+
+pub closed_keeps_its_place : answer roomy one_closing (asks ask.port) ≡ reply 20 0 (body.Refused too_many_ports)
+closed_keeps_its_place = refl
+
+pub drained_leaves_its_place : answer roomy (asks (ask.apply 3) ∷ one_closing) (asks ask.port) ≡ reply 21 1 (body.Port 16)
+drained_leaves_its_place = refl
+
 -- ---- batches of other kinds
 
 pub keys_without_an_index : answer roomy with_free_port (asks (ask.remove 0 (raw_list no_raw_items))) ≡ reply 3 0 (body.Refused not_indexed)
 keys_without_an_index = refl
+
+pub bad_keys_without_an_index : answer roomy with_free_port (asks (ask.remove 0 (raw_list (raw_item raw_null no_raw_items)))) ≡ reply 3 0 (body.Refused not_indexed)
+bad_keys_without_an_index = refl
 
 pub keys_are_removed : answer roomy (asks (ask.apply 0) ∷ asks (ask.remove 0 (raw_list (raw_item (raw_int (pos 1)) no_raw_items))) ∷ with_view) (asks (ask.rows 0 0 9))
     ≡ reply 8 2 (body.Rows 0 0 (shows (shown_row (pos 2) (pos 5) ∷ [])) 1 0)

@@ -1,11 +1,11 @@
 -- What holds of every history, legal or not.
-use Rattle.std.specs.Prelude.{◌≡◌, ℕ, suc, zero, ◌+◌, ◌==◌, List, [], ◌∷◌, ◌++◌, filter, fold, map}
+use Rattle.std.specs.Prelude.{◌≡◌, ℕ, suc, zero, ◌+◌, ◌==◌, false, List, [], ◌∷◌, ◌++◌, filter, fold, map}
 use Rattle.frame_types.specs.Asks.{Ask}
 use Rattle.frame_types.specs.declared.reply.Body.TheVariants.{Refused}
 use Rattle.frame_types.specs.declared.reply.Refusal.{Refusal}
 use Rattle.row_batch.specs.Batches.{empty_store, put_batch}
 use Rattle.row_batch.specs.declared.batch.Batch.{Batch}
-use Rattle.hub_spec.specs.Answered.{Answered}
+use Rattle.hub_spec.specs.Answered.{Answered, entries_of}
 use Rattle.hub_spec.specs.Histories.{Entry, answered}
 use Rattle.hub_spec.specs.Ports.{Applied, accepted, taken, waiting, applied}
 use Rattle.hub_spec.specs.HeldViews as held
@@ -39,18 +39,22 @@ abbrev pub RowsAreApplied : Type 0
 RowsAreApplied = (past : List Answered) →
     rows past ≡ (fold (put_batch (schema_or_none past)) empty_store (map (λ a. a.batch) (applied past))).pairs
 
--- a step that was refused leaves all as it was, but for the session's count of steps
-pub record IsUnchanged (past after : List Answered) : Type 0 where
+-- a step that was refused leaves all as it was, but that the session took one step more
+pub record IsUnchanged (session : ℕ) (past after : List Answered) : Type 0 where
   pub schema : history.schema after ≡ history.schema past
   pub ports : history.ports after ≡ history.ports past
   pub accepted : (port : ℕ) → history.accepted after port ≡ history.accepted past port
   pub closed : (port : ℕ) → history.is_closed after port ≡ history.is_closed past port
+  pub taken : (port : ℕ) → history.taken after port ≡ history.taken past port
   pub waiting : (port : ℕ) → history.waiting after port ≡ history.waiting past port
+  pub applied : history.applied after ≡ history.applied past
   pub version : history.version after ≡ history.version past
-  pub rows : table.rows after ≡ table.rows past
+  pub store : table.store after ≡ table.store past
   pub views : held.views after ≡ held.views past
-  pub opened : (session : ℕ) → held.opened after session ≡ held.opened past session
+  pub opened : (asking : ℕ) → held.opened after asking ≡ held.opened past asking
+  pub own_count : entries_of after session ≡ entries_of past session + 1
+  pub other_counts : (other : ℕ) → (session == other) ≡ false → entries_of after other ≡ entries_of past other
 
 abbrev pub RefusalsChangeNothing : Type 0
 RefusalsChangeNothing = (past : List Answered) (session n version : ℕ) (request : Ask) (why : Refusal) →
-    IsUnchanged past (record { session = session; request = request; reply = record { n = n; version = version; body = Refused why } } ∷ past)
+    IsUnchanged session past (record { session = session; request = request; reply = record { n = n; version = version; body = Refused why } } ∷ past)

@@ -1,4 +1,6 @@
-use Rattle.std.proofs.Common.{refl}
+use Rattle.std.proofs.Common.{◌+◌, cond, refl, ap}
+use Rattle.std.proofs.lemmas.Bool.{eq-eqb}
+use Rattle.hub_spec.specs.Answered.{entries_of}
 use Rattle.hub_spec.proofs.refusals_change_nothing.Goals as goal
 
 pub returns : goal.returns
@@ -7,9 +9,13 @@ returns c past session n version request why = record {
   ports = refl;
   accepted = λ port. refl;
   closed = λ port. refl;
+  taken = λ port. refl;
   waiting = λ port. refl;
+  applied = refl;
   version = refl;
-  rows = refl;
+  store = refl;
   views = refl;
   opened = λ other. refl;
+  own_count = ap (λ own. cond own (entries_of past session + 1) (entries_of past session)) (eq-eqb session session refl);
+  other_counts = λ other apart. ap (λ own. cond own (entries_of past other + 1) (entries_of past other)) apart;
 }
