@@ -1,4 +1,5 @@
 pub mod abs_sum;
+pub mod avg;
 pub mod count;
 pub mod distinct_count;
 pub mod dominant;

@@ -25,6 +25,7 @@ mod walk;
 
 pub use aggregate::Aggregate;
 pub use each::abs_sum::AbsSum;
+pub use each::avg::Avg;
 pub use each::count::Count;
 pub use each::distinct_count::DistinctCount;
 pub use each::dominant::Dominant;

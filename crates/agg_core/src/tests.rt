@@ -2,7 +2,7 @@ ghost use Rattle.std.specs.Prelude.{◌≡◌, [], IsTrue, OnOk};
 ghost use Rattle.agg_core.specs.Types.{IsTaken};
 
 use crate::{
-    AbsSum, Aggregate, Count, DistinctCount, Dominant, First, Last, Max, Mean, Median, Min,
+    AbsSum, Aggregate, Avg, Count, DistinctCount, Dominant, First, Last, Max, Mean, Median, Min,
     ResultType, Sum, SumAbs, Unique, default_aggregate, fractions_are_lowest, result_type,
     sums_are_small, takes,
 };
@@ -110,29 +110,29 @@ fn value_after<A: Aggregate + Drop>(
 /// last, dominant, median.
 fn choices(alloc: Global, steps: &[Step]) -> Result<Vec<Option<Value>>, Fail> {
     Ok(vec![in alloc;
-        value_after(alloc, Count::make(), AggName::Count, steps)?,
+        value_after(alloc, Count::make()?, AggName::Count, steps)?,
         value_after(
             alloc,
-            DistinctCount::make(alloc),
+            DistinctCount::make(alloc)?,
             AggName::DistinctCount,
             steps
         )?,
-        value_after(alloc, Min::make(alloc), AggName::Min, steps)?,
-        value_after(alloc, Max::make(alloc), AggName::Max, steps)?,
-        value_after(alloc, Unique::make(alloc), AggName::Unique, steps)?,
-        value_after(alloc, First::make(alloc), AggName::First, steps)?,
-        value_after(alloc, Last::make(alloc), AggName::Last, steps)?,
-        value_after(alloc, Dominant::make(alloc), AggName::Dominant, steps)?,
-        value_after(alloc, Median::make(alloc), AggName::Median, steps)?,
+        value_after(alloc, Min::make(alloc)?, AggName::Min, steps)?,
+        value_after(alloc, Max::make(alloc)?, AggName::Max, steps)?,
+        value_after(alloc, Unique::make(alloc)?, AggName::Unique, steps)?,
+        value_after(alloc, First::make(alloc)?, AggName::First, steps)?,
+        value_after(alloc, Last::make(alloc)?, AggName::Last, steps)?,
+        value_after(alloc, Dominant::make(alloc)?, AggName::Dominant, steps)?,
+        value_after(alloc, Median::make(alloc)?, AggName::Median, steps)?,
     ]?)
 }
 
 /// The values of sum, abs sum and sum abs.
 fn sums(alloc: Global, steps: &[Step]) -> Result<Vec<Option<Value>>, Fail> {
     Ok(vec![in alloc;
-        value_after(alloc, Sum::make(), AggName::Sum, steps)?,
-        value_after(alloc, AbsSum::make(), AggName::AbsSum, steps)?,
-        value_after(alloc, SumAbs::make(), AggName::SumAbs, steps)?,
+        value_after(alloc, Sum::make()?, AggName::Sum, steps)?,
+        value_after(alloc, AbsSum::make()?, AggName::AbsSum, steps)?,
+        value_after(alloc, SumAbs::make()?, AggName::SumAbs, steps)?,
     ]?)
 }
 
@@ -308,7 +308,9 @@ fn integer_columns(rt: HostRuntime) -> Result<(), Fail> {
         for (value, expected) in shown.iter().zip(case.sums.iter()) {
             assert_eq!(rt; *value, whole(expected));
         }
-        let average = value_after(alloc, Mean::make(), AggName::Mean, steps.as_slice())?;
+        let mean = value_after(alloc, Mean::make()?, AggName::Mean, steps.as_slice())?;
+        assert_eq!(rt; mean, fraction(case.mean));
+        let average = value_after(alloc, Avg::make()?, AggName::Avg, steps.as_slice())?;
         assert_eq!(rt; average, fraction(case.mean));
     }
     Ok(())
@@ -344,7 +346,9 @@ fn rows_come_and_go(rt: HostRuntime) -> Result<(), Fail> {
     for value in &sums(alloc, steps.as_slice())? {
         assert_eq!(rt; *value, whole(&Some(11)));
     }
-    let average = value_after(alloc, Mean::make(), AggName::Mean, steps.as_slice())?;
+    let mean = value_after(alloc, Mean::make()?, AggName::Mean, steps.as_slice())?;
+    assert_eq!(rt; mean, fraction(Some((11, 2))));
+    let average = value_after(alloc, Avg::make()?, AggName::Avg, steps.as_slice())?;
     assert_eq!(rt; average, fraction(Some((11, 2))));
     Ok(())
 }

@@ -1,4 +1,4 @@
-ghost use Rattle.std.specs.Prelude.{[]};
+ghost use Rattle.std.specs.Prelude.{[], IfOk};
 ghost use Rattle.plan_types.specs.declared.aggregate.AggName.TheVariants as name;
 ghost use Rattle.agg_core.specs.Aggregates.{numbers};
 ghost use Rattle.agg_core.specs.Numbers.{IsTotalOf};
@@ -14,12 +14,13 @@ pub struct AbsSum {
 }
 
 impl AbsSum {
-    pub fn make() -> AbsSum
-        ensures { ⟦<AbsSum as Aggregate>⟧.stands_for result [] }
+    /// An aggregate of no rows.
+    pub fn make() -> Result<Self, Memory>
+        ensures { IfOk result (λ it. ⟦<AbsSum as Aggregate>⟧.stands_for it []) }
     {
-        AbsSum {
+        Ok(Self {
             total: Total::zero(),
-        }
+        })
     }
 }
 

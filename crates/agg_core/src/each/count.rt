@@ -1,4 +1,4 @@
-ghost use Rattle.std.specs.Prelude.{[]};
+ghost use Rattle.std.specs.Prelude.{[], IfOk};
 
 use crate::aggregate::Aggregate;
 use cell_core::{Cell, Memory, Value};
@@ -10,10 +10,11 @@ pub struct Count {
 }
 
 impl Count {
-    pub fn make() -> Count
-        ensures { ⟦<Count as Aggregate>⟧.stands_for result [] }
+    /// An aggregate of no rows.
+    pub fn make() -> Result<Self, Memory>
+        ensures { IfOk result (λ it. ⟦<Count as Aggregate>⟧.stands_for it []) }
     {
-        Count { rows: 0 }
+        Ok(Self { rows: 0 })
     }
 }
 

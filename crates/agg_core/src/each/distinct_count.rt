@@ -1,4 +1,4 @@
-ghost use Rattle.std.specs.Prelude.{[]};
+ghost use Rattle.std.specs.Prelude.{[], IfOk};
 ghost use Rattle.plan_types.specs.declared.aggregate.AggName.TheVariants as name;
 ghost use Rattle.agg_core.specs.Bags.{IsBagOf};
 
@@ -15,12 +15,13 @@ pub struct DistinctCount {
 }
 
 impl DistinctCount {
-    pub fn make(alloc: Global) -> DistinctCount
-        ensures { ⟦<DistinctCount as Aggregate>⟧.stands_for result [] }
+    /// An aggregate of no rows.
+    pub fn make(alloc: Global) -> Result<Self, Memory>
+        ensures { IfOk result (λ it. ⟦<DistinctCount as Aggregate>⟧.stands_for it []) }
     {
-        DistinctCount {
+        Ok(Self {
             bag: Bag::make(alloc),
-        }
+        })
     }
 }
 

@@ -1,4 +1,4 @@
-ghost use Rattle.std.specs.Prelude.{[]};
+ghost use Rattle.std.specs.Prelude.{[], IfOk};
 ghost use Rattle.plan_types.specs.declared.aggregate.AggName.TheVariants as name;
 ghost use Rattle.agg_core.specs.Rows.{AreRowsOf};
 
@@ -17,13 +17,14 @@ pub struct First {
 }
 
 impl First {
-    pub fn make(alloc: Global) -> First
-        ensures { ⟦<First as Aggregate>⟧.stands_for result [] }
+    /// An aggregate of no rows.
+    pub fn make(alloc: Global) -> Result<Self, Memory>
+        ensures { IfOk result (λ it. ⟦<First as Aggregate>⟧.stands_for it []) }
     {
-        First {
+        Ok(Self {
             rows: ByKey::make(alloc),
             alloc,
-        }
+        })
     }
 }
 

@@ -1,4 +1,4 @@
-ghost use Rattle.std.specs.Prelude.{[]};
+ghost use Rattle.std.specs.Prelude.{[], IfOk};
 ghost use Rattle.plan_types.specs.declared.aggregate.AggName.TheVariants as name;
 ghost use Rattle.agg_core.specs.Bags.{IsBagOf};
 
@@ -17,13 +17,14 @@ pub struct Max {
 }
 
 impl Max {
-    pub fn make(alloc: Global) -> Max
-        ensures { ⟦<Max as Aggregate>⟧.stands_for result [] }
+    /// An aggregate of no rows.
+    pub fn make(alloc: Global) -> Result<Self, Memory>
+        ensures { IfOk result (λ it. ⟦<Max as Aggregate>⟧.stands_for it []) }
     {
-        Max {
+        Ok(Self {
             bag: Bag::make(alloc),
             alloc,
-        }
+        })
     }
 }
 

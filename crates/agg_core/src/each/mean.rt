@@ -1,4 +1,4 @@
-ghost use Rattle.std.specs.Prelude.{[]};
+ghost use Rattle.std.specs.Prelude.{[], IfOk};
 ghost use Rattle.plan_types.specs.declared.aggregate.AggName.TheVariants as name;
 ghost use Rattle.agg_core.specs.Aggregates.{numbers};
 ghost use Rattle.agg_core.specs.Numbers.{IsTotalOf};
@@ -7,20 +7,21 @@ use crate::aggregate::Aggregate;
 use crate::total::{Total, number_in};
 use cell_core::{Cell, Fraction, Memory, Value};
 
-/// The mean of the cells that aren't null, for both of its names, as a fraction in its lowest terms. `add` and
-/// `take_off` take constant time, `value` divides as Euclid's algorithm does, and no call takes memory.
+/// The mean of the cells that aren't null, as a fraction in its lowest terms. `add` and `take_off` take
+/// constant time, `value` divides as Euclid's algorithm does, and no call takes memory.
 #[derive(Drop)]
 pub struct Mean {
     total: Total,
 }
 
 impl Mean {
-    pub fn make() -> Mean
-        ensures { ⟦<Mean as Aggregate>⟧.stands_for result [] }
+    /// An aggregate of no rows.
+    pub fn make() -> Result<Self, Memory>
+        ensures { IfOk result (λ it. ⟦<Mean as Aggregate>⟧.stands_for it []) }
     {
-        Mean {
+        Ok(Self {
             total: Total::zero(),
-        }
+        })
     }
 }
 

@@ -1,4 +1,4 @@
-ghost use Rattle.std.specs.Prelude.{[]};
+ghost use Rattle.std.specs.Prelude.{[], IfOk};
 ghost use Rattle.plan_types.specs.declared.aggregate.AggName.TheVariants as name;
 ghost use Rattle.agg_core.specs.Bags.{IsBagOf};
 
@@ -17,13 +17,14 @@ pub struct Median {
 }
 
 impl Median {
-    pub fn make(alloc: Global) -> Median
-        ensures { ⟦<Median as Aggregate>⟧.stands_for result [] }
+    /// An aggregate of no rows.
+    pub fn make(alloc: Global) -> Result<Self, Memory>
+        ensures { IfOk result (λ it. ⟦<Median as Aggregate>⟧.stands_for it []) }
     {
-        Median {
+        Ok(Self {
             bag: Bag::make(alloc),
             alloc,
-        }
+        })
     }
 }
 

@@ -1,4 +1,4 @@
-ghost use Rattle.std.specs.Prelude.{[], map};
+ghost use Rattle.std.specs.Prelude.{[], IfOk, map};
 ghost use Rattle.plan_types.specs.declared.aggregate.AggName.TheVariants as name;
 ghost use Rattle.agg_core.specs.Aggregates.{numbers, size_of};
 ghost use Rattle.agg_core.specs.Numbers.{IsTotalOf};
@@ -14,12 +14,13 @@ pub struct SumAbs {
 }
 
 impl SumAbs {
-    pub fn make() -> SumAbs
-        ensures { ⟦<SumAbs as Aggregate>⟧.stands_for result [] }
+    /// An aggregate of no rows.
+    pub fn make() -> Result<Self, Memory>
+        ensures { IfOk result (λ it. ⟦<SumAbs as Aggregate>⟧.stands_for it []) }
     {
-        SumAbs {
+        Ok(Self {
             total: Total::zero(),
-        }
+        })
     }
 }
 
