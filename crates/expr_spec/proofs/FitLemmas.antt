@@ -37,7 +37,8 @@ use Rattle.expr_spec.specs.Functions.{function_named, unit_named, date_unit}
 use Rattle.expr_spec.specs.TreeData.{TreeData, column, number, truth, words, unary, binary, call, Arguments, no_arguments, argument}
 use Rattle.expr_spec.specs.Typing as t
 use Rattle.expr_spec.specs.Values as v
-use Rattle.expr_spec.specs.Values.{IsOnCalendar, FitsColumns}
+use Rattle.expr_spec.specs.Values.{IsOnCalendar}
+use Rattle.row_batch.specs.Changes.{FitsColumns}
 use Rattle.expr_spec.proofs.CalendarLemmas.{both}
 
 abbrev Fits : CellType → Cell → Type 0

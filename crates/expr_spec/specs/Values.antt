@@ -1,5 +1,5 @@
 -- The cell that an expression tree gives on a row.
-use Rattle.std.specs.Prelude.{◌≡◌, ℕ, zero, suc, nat_eq, nat_lt, ℤ, pos, negsuc, neg_ℤ, ◌+ℤ◌, ◌-ℤ◌, ◌*ℤ◌, unsigned_abs, List, [], ◌∷◌, ◌++◌, length, slice_index_or, Bool, true, false, not, ◌||◌, Option, Some, None, if◌then◌else◌}
+use Rattle.std.specs.Prelude.{ℕ, zero, suc, nat_eq, nat_lt, ℤ, pos, negsuc, neg_ℤ, ◌+ℤ◌, ◌-ℤ◌, ◌*ℤ◌, unsigned_abs, List, [], ◌∷◌, ◌++◌, length, slice_index_or, Bool, true, false, not, ◌||◌, Option, Some, None, if◌then◌else◌}
 use Rattle.std.specs.Int.{int_min, int_max, int_div_euclid, int_rem_euclid}
 use Rattle.std.specs.List.{starts_with, ends_with}
 use Rattle.std.specs.Option.{option_and_then}
@@ -11,13 +11,12 @@ use Rattle.cal_units.specs.Calendar.{IsDay, IsMoment, year_of, month_of, day_of_
 use Rattle.cal_units.specs.declared.buckets.Unit.{Unit as TimeUnit}
 use Rattle.cell_core.specs.declared.cell.Cell.{Cell}
 use Rattle.cell_core.specs.declared.cell.Cell.TheVariants.{Null, Bool as Truth, Int, Date, Moment, Words}
-use Rattle.cell_core.specs.declared.schema.Column.{Column}
 use Rattle.cell_core.specs.Cells.{cell_order}
 use Rattle.plan_types.specs.declared.tree.UnaryOp.{UnaryOp}
 use Rattle.plan_types.specs.declared.tree.UnaryOp.TheVariants as sign
 use Rattle.plan_types.specs.declared.tree.BinaryOp.{BinaryOp}
 use Rattle.plan_types.specs.declared.tree.BinaryOp.TheVariants as op
-use Rattle.row_batch.specs.Checks.{is_integer, is_null, cell_fault}
+use Rattle.row_batch.specs.Checks.{is_integer, is_null}
 use Rattle.expr_spec.specs.declared.function.Function.{Function}
 use Rattle.expr_spec.specs.declared.function.Function.TheVariants as function
 use Rattle.expr_spec.specs.Functions.{function_named, unit_named, date_unit}
@@ -219,10 +218,3 @@ abbrev pub IsOnCalendar : Cell → Type 0
 IsOnCalendar (Date day) = IsDay day
 IsOnCalendar (Moment ms) = IsMoment ms
 IsOnCalendar other = Unit {0}
-
--- one cell for each column, null or of its type and in range
-abbrev pub FitsColumns : List Column → List Cell → Type 0
-FitsColumns [] [] = Unit {0}
-FitsColumns [] (x ∷ row) = ⊥
-FitsColumns (c ∷ columns) [] = ⊥
-FitsColumns (c ∷ columns) (x ∷ row) = (cell_fault c.kind x ≡ None) × FitsColumns columns row

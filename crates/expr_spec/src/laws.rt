@@ -5,7 +5,8 @@ ghost use Rattle.cell_core.specs.declared.schema.Column.{Column};
 ghost use Rattle.row_batch.specs.Checks.{cell_fault};
 ghost use Rattle.expr_spec.specs.TreeData.{TreeData};
 ghost use Rattle.expr_spec.specs.Typing.{IsCheckedTree};
-ghost use Rattle.expr_spec.specs.Values.{IsOnCalendar, FitsColumns, value_in};
+ghost use Rattle.expr_spec.specs.Values.{IsOnCalendar, value_in};
+ghost use Rattle.row_batch.specs.Changes.{FitsColumns};
 
 /// Laws of checked trees, which code cannot call for anything else: on a row that fits the columns a
 /// checked tree gives null or a cell of its type and in range, and the dates and datetimes of such a row
