@@ -1,11 +1,10 @@
 -- Lists in which nothing stands twice: their parts, their images, and lists that ascend.
-use Rattle.std.proofs.Common.{◌≡◌, ◌≢◌, ℕ, zero, suc, ◌+◌, ◌<◌, ◌≤◌, Bool, true, false, ◌||◌, List, [], ◌∷◌, length, get_or, take, drop, map, Ordering, Less, Equal, refl, sym, ◌∙◌, ap, subst, arith}
+use Rattle.std.proofs.Common.{◌≡◌, ◌≢◌, ℕ, zero, suc, ◌<◌, List, [], ◌∷◌, length, get_or, take, drop, map, Ordering, Less, Equal, refl, sym, ◌∙◌, ap, subst, arith}
 use Rattle.std.specs.Cmp.{IsTotalOrder}
-use Rattle.std.specs.List.{All, list_any}
-use Rattle.std.specs.Ordering.{is_eq}
+use Rattle.std.specs.List.{All}
 use Rattle.std.specs.List.Sorted.{IsStrictlySortedBy}
 use Rattle.std.proofs.lemmas.Cmp.{tied_itself}
-use Rattle.std.proofs.lemmas.List.{length-map, get_or-map, take-map, drop-map, drop_more, drop_all}
+use Rattle.std.proofs.lemmas.List.{length-map, get_or-map, take-map, drop-map}
 use Rattle.std.proofs.lemmas.List.Elements.{All-nil, All-cons, All-map, All-weaker, All-take, All-from_recursion}
 use Rattle.std.proofs.lemmas.Map.Keys.{sorted_head, sorted_tail}
 use Rattle.plain_data.specs.Distinct.{AreDistinct}
@@ -51,25 +50,3 @@ apart_before key (x ∷ xs) (suc i) d l h =
     let bound : i < length (map key xs) = rw length-map within in
     let apart : key (get_or xs i d) ≢ key x = λ same. h.0 i (key d) bound (get_or-map key xs i d (key d) within ∙ same) in
     All-cons (λ y. key (get_or xs i d) ≢ key y) x (take i xs) apart (apart_before key xs i d within h.1)
-
-neither : (a b : Bool) → (a || b) ≡ false → (a ≡ false) × (b ≡ false)
-neither true b h = absurd (let wrong : true ≡ false = h in cc)
-neither false b h = (refl, h)
-
--- no key that a search among them missed is the key looked for
-pub apart_from_list_any : {X K : Type 0} (R : K → K → Ordering) → IsTotalOrder R → (key : X → K) (k : K) (xs : List X) → list_any (λ x. is_eq (R (key x) k)) xs ≡ false → All (λ y. y ≢ k) (map key xs)
-apart_from_list_any R o key k [] h = All-nil (λ y. y ≢ k)
-apart_from_list_any R o key k (x ∷ xs) h =
-    let both = neither (is_eq (R (key x) k)) (list_any (λ x. is_eq (R (key x) k)) xs) h in
-    let apart : key x ≢ k = λ same. let wrong : true ≡ false = sym (ap is_eq (ap (λ z. R z k) same ∙ tied_itself o k)) ∙ both.0 in cc in
-    All-cons (λ y. y ≢ k) (key x) (map key xs) apart (apart_from_list_any R o key k xs both.1)
-
--- the item at i, whose key none behind it has, stands before items under distinct keys
-pub AreDistinct-drop_more : {X K : Type 0} (R : K → K → Ordering) → IsTotalOrder R → (key : X → K) (xs : List X) (i : ℕ) (d : X) → i < length xs
-    → list_any (λ x. is_eq (R (key x) (key (get_or xs i d)))) (drop (i + 1) xs) ≡ false → AreDistinct (map key (drop (i + 1) xs)) → AreDistinct (map key (drop i xs))
-AreDistinct-drop_more R o key xs i d within missed rest =
-    subst (λ ys. AreDistinct (map key ys)) (sym (drop_more xs i d within))
-    (apart_from_list_any R o key (key (get_or xs i d)) (drop (i + 1) xs) missed, rest)
-
-pub AreDistinct-drop_all : {X K : Type 0} (key : X → K) (xs : List X) (i : ℕ) → length xs ≤ i → AreDistinct (map key (drop i xs))
-AreDistinct-drop_all key xs i past = subst (λ ys. AreDistinct (map key ys)) (sym (drop_all i xs past)) tt

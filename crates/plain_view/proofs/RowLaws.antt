@@ -1,10 +1,12 @@
 -- The rows that are made of the entries of a map.
-use Rattle.std.proofs.Common.{◌≡◌, ℕ, ◌+◌, ◌-◌, ◌<◌, ◌≤◌, List, length, get_or, take, drop, map, refl, sym, ◌∙◌, ap, subst, arith}
+use Rattle.std.proofs.Common.{◌≡◌, ℕ, zero, suc, ◌+◌, ◌-◌, ◌<◌, ◌≤◌, List, [], ◌∷◌, Some, None, length, get_or, take, drop, map, refl, sym, ◌∙◌, ap, subst, arith}
 use Rattle.std.specs.BTreeMap.{insert_entry}
+use Rattle.std.specs.List.{slice_get}
 use Rattle.std.specs.List.Sorted.{IsStrictlySortedBy}
 use Rattle.std.specs.Map.{keys_of}
 use Rattle.std.proofs.lemmas.List.{length-map, take-map, drop-map, take_all}
 use Rattle.std.proofs.lemmas.List.Elements.{All-map}
+use Rattle.std.proofs.lemmas.Option.{slice_get_within, get_or_from_slice_get}
 use Rattle.std.proofs.lemmas.Simd.{map-map}
 use Rattle.plain_data.specs.Sorting.{sorted_by}
 use Rattle.value_core.specs.declared.value.Value.{Value}
@@ -46,6 +48,21 @@ entries_of_pairs_more columns pairs i p key row cells es fs distinct within at s
     let value : cells ≡ cells_of columns p.row = same_cells ∙ ap (λ r. cells_of columns r) same_row in
     entries_more (λ (p : Pair). p.key) (λ (p : Pair). cells_of columns p.row) ghosts.cmp by_place keys_by_place by_place-exact pairs i p es fs distinct within at so_far
     (put ∙ ap (λ k. insert_entry ghosts.cmp es k cells) same_key ∙ ap (λ v. insert_entry ghosts.cmp es p.key v) value)
+
+-- the same, where the row is found by its place
+pub entries_of_place : (columns : List Column) (pairs : List Pair) (i : ℕ) (p : Pair) (key : Cell) (row : List Cell) (cells : List (List ℕ × Value)) (es fs : List Entry)
+    → AreDistinct (map (λ (p : Pair). p.key) pairs) → slice_get pairs i ≡ Some p → key ≡ p.key → row ≡ p.row → cells ≡ cells_of columns row
+    → es ≡ map (λ (p : Pair). (p.key, cells_of columns p.row)) (sorted_by by_place (take i pairs)) → fs ≡ insert_entry ghosts.cmp es key cells
+    → fs ≡ map (λ (p : Pair). (p.key, cells_of columns p.row)) (sorted_by by_place (take (i + 1) pairs))
+entries_of_place columns pairs i p key row cells es fs distinct at same_key same_row same_cells so_far put =
+    entries_of_pairs_more columns pairs i p key row cells es fs distinct (slice_get_within pairs i p at) (sym (get_or_from_slice_get pairs i p p at))
+    same_key same_row same_cells so_far put
+
+-- each place below the length has a row
+pub no_place : (pairs : List Pair) (i : ℕ) → slice_get pairs i ≡ None → (i < length pairs → ⊥)
+no_place [] i none within = omega arith
+no_place (p ∷ pairs) zero none within = cc
+no_place (p ∷ pairs) (suc i) none within = no_place pairs i none (omega arith)
 
 -- rows under keys that ascend are rows that may be shown together, and so is a part of them
 pub shown_from_ascending : (es : List Entry) (n k : ℕ) → IsStrictlySortedBy ghosts.cmp (keys_of es) → AreShownRows (map (λ (e : Entry). flat_row e.0 e.1) (take n (drop k es)))

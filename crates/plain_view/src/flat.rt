@@ -1,77 +1,99 @@
-ghost use Rattle.std.specs.Prelude.{◌≡◌, ◌-◌, IfOk, length, map, take, drop};
+ghost use Rattle.std.specs.Prelude.{◌≡◌, ◌+◌, ◌-◌, ◌<◌, IfOk, OnOk, length, map, take, drop};
 ghost use Rattle.plain_data.specs.Sorting.{sorted_by};
 ghost use Rattle.plain_data.specs.Distinct.{AreDistinct};
+ghost use Rattle.row_batch.specs.Tables.{keys_of_rows};
 ghost use Rattle.plain_view.specs.Flat.{by_place, cells_of, flat_view, window};
 ghost use Rattle.plain_view.specs.Rows.{flat_row};
 
 use crate::cells::{header_of, shown_cells};
-use cell_core::{Cell, Column, Listed, Memory, Schema};
-use row_batch::Pair;
+use cell_core::{Cell, Column, Listed, Memory, Steps};
 use std::alloc::{AllocError, Global};
 use std::collections::BTreeMap;
+use std::sync::ledger::Ledger;
+use table_core::Table;
 use view_types::{Shown, ShownCells, ShownRow, ShownRows, ViewKey};
 
+/// Rows' values under their keys.
+type ByKey = BTreeMap<Cell, ShownCells>;
+
 /// What a view of all rows and all columns shows: the columns' texts and types, and the rows
-/// ascending by key. No key may stand twice.
+/// ascending by key. Each row is visited once.
 ///
 /// Want of memory is the only refusal.
-pub fn show(alloc: Global, schema: &Schema, pairs: &[Pair]) -> Result<Shown, Memory>
-    requires { AreDistinct (map (λ p. p.key) pairs.now) }
-    ensures { IfOk result (λ shown. shown ≡ flat_view schema.now pairs.now) }
+pub fn show<L: Ledger>(alloc: Global, table: &Table, steps: &mut Steps<L>) -> Result<Shown, Memory>
+    ensures { IfOk result (λ shown. shown ≡ flat_view table.now.schema table.now.store.pairs) }
 {
-    let (shown, _size) = show_window(alloc, schema, pairs, 0, pairs.len() as u64)?;
+    let size = table.size() as u64;
+    let (shown, _size) = show_window(alloc, table, 0, size, steps)?;
     Ok(shown)
 }
 
 /// The rows at positions from `first` up to and without `end` of what `show` gives, under the same
 /// header, and the number of all rows. Positions past the last row have none, and neither have those
-/// of a window whose `end` is not past its `first`.
+/// of a window whose `end` is not past its `first`. Each row is visited once.
 ///
 /// Want of memory is the only refusal.
-pub fn show_window(
+pub fn show_window<L: Ledger>(
     alloc: Global,
-    schema: &Schema,
-    pairs: &[Pair],
+    table: &Table,
     first: u64,
     end: u64,
+    steps: &mut Steps<L>,
 ) -> Result<(Shown, u64), Memory>
-    requires { AreDistinct (map (λ p. p.key) pairs.now) }
-    ensures shown { IfOk result (λ w. w.0 ≡ window first end (flat_view schema.now pairs.now)) }
-    ensures size { IfOk result (λ w. w.1 ≡ length (flat_view schema.now pairs.now).rows) }
+    ensures shown { IfOk result (λ w. w.0 ≡ window first end (flat_view table.now.schema table.now.store.pairs)) }
+    ensures size { IfOk result (λ w. w.1 ≡ length (flat_view table.now.schema table.now.store.pairs).rows) }
 {
-    let header = header_of(alloc, schema.columns())?;
-    let by_key = cells_by_key(alloc, schema.columns(), pairs)?;
+    let columns = table.schema().columns();
+    let header = header_of(alloc, columns)?;
+    let by_key = cells_by_key(alloc, columns, table, steps)?;
     let size = by_key.len() as u64;
     let rows = rows_between(alloc, by_key, first, end)?;
     Ok((Shown { header, rows }, size))
 }
 
 /// Each row's values under its key.
-fn cells_by_key(
+fn cells_by_key<L: Ledger>(
     alloc: Global,
     columns: &[Column],
-    pairs: &[Pair],
-) -> Result<BTreeMap<Cell, ShownCells>, Memory>
-    requires { AreDistinct (map (λ p. p.key) pairs.now) }
+    table: &Table,
+    steps: &mut Steps<L>,
+) -> Result<ByKey, Memory>
     ensures { IfOk result (λ m. m.entries
-        ≡ map (λ p. (p.key, cells_of columns.now p.row)) (sorted_by by_place pairs.now)) }
+        ≡ map (λ p. (p.key, cells_of columns.now p.row)) (sorted_by by_place table.now.store.pairs)) }
 {
-    let mut by_key = BTreeMap::new(alloc);
-    for pair in pairs {
-        let key = pair.key.copy(alloc)?;
-        let cells = shown_cells(alloc, columns, pair.row.as_slice())?;
-        drop(by_key.insert(key, cells)?);
+    let mut by_key = ByKey::new(alloc);
+    for i in 0..table.size() {
+        put_row(alloc, columns, table, i, &mut by_key, steps)?;
     }
     Ok(by_key)
 }
 
-/// The rows at positions from `first` up to and without `end`, ascending by key.
-fn rows_between(
+/// Puts the values of the row at a place under its key, after those of all before it.
+fn put_row<L: Ledger>(
     alloc: Global,
-    by_key: BTreeMap<Cell, ShownCells>,
-    first: u64,
-    end: u64,
-) -> Result<ShownRows, Memory>
+    columns: &[Column],
+    table: &Table,
+    i: usize,
+    by_key: &mut ByKey,
+    steps: &mut Steps<L>,
+) -> Result<(), Memory>
+    requires distinct { AreDistinct (keys_of_rows table.now.store.pairs) }
+    requires within { i < length table.now.store.pairs }
+    requires begins { by_key.old.entries
+        ≡ map (λ p. (p.key, cells_of columns.now p.row)) (sorted_by by_place (take i table.now.store.pairs)) }
+    ensures { OnOk result (by_key.new.entries
+        ≡ map (λ p. (p.key, cells_of columns.now p.row)) (sorted_by by_place (take (i + 1) table.now.store.pairs))) }
+{
+    if let Some((key, row)) = table.at(i, steps) {
+        let key = key.copy(alloc)?;
+        let cells = shown_cells(alloc, columns, row.as_slice())?;
+        drop(by_key.insert(key, cells)?);
+    }
+    Ok(())
+}
+
+/// The rows at positions from `first` up to and without `end`, ascending by key.
+fn rows_between(alloc: Global, by_key: ByKey, first: u64, end: u64) -> Result<ShownRows, Memory>
     ensures { IfOk result (λ rows. rows
         ≡ map (λ e. flat_row e.0 e.1) (take (end - first) (drop first by_key.entries))) }
 {
@@ -83,7 +105,7 @@ fn rows_between(
 
 fn collected(
     alloc: Global,
-    by_key: BTreeMap<Cell, ShownCells>,
+    by_key: ByKey,
     first: usize,
     count: usize,
 ) -> Result<Vec<ShownRow>, AllocError>

@@ -1,8 +1,8 @@
 //! What a view shows, computed from scratch: a flat view of all rows and all columns.
 //!
-//! It stands on `row_batch` and `view_types`. Its callers may rely on this: what is shown is
-//! `flat_view` of `specs/Flat.antt`, which takes the rows sorted by place, and no order of the pairs
-//! that are handed in makes a difference. The time is that of a sort, whatever order the pairs have.
+//! It stands on `table_core` and `view_types`. Its callers may rely on this: what is shown is
+//! `flat_view` of `specs/Flat.antt`, which takes the table's rows sorted by place, and no order in which
+//! the table has them makes a difference. The time is that of a sort, whatever that order is.
 #![tactic(auto)]
 
 mod cells;

@@ -1,17 +1,23 @@
-ghost use Rattle.std.specs.Prelude.{◌≡◌, IsTrue, map};
-ghost use Rattle.std.specs.List.{list_any};
-ghost use Rattle.plain_data.specs.Distinct.{AreDistinct};
-ghost use Rattle.cell_core.specs.Cells.{same_cell};
+ghost use Rattle.std.specs.Prelude.{◌≡◌, ◌<◌, IfOk};
 
 use crate::{show, show_window};
-use cell_core::{Cell, ColumnWords, Listed, Memory, Schema, Text};
-use row_batch::Pair;
+use cell_core::{Cell, ColumnWords, Listed, Schema, Steps, Text};
+use row_batch::{Batch, Patch, PatchCell, Patches, check, is_shaped};
 use std::alloc::Global;
+use std::marker::Brand;
 use std::process::Abort;
+use std::sync::ledger::{Blank, Ledger};
 use std::test::Fail;
+use table_core::Table;
 use view_types::{Shown, ViewKey};
 
-fn integers(alloc: Global, names: &[&str]) -> Result<Schema, Fail> {
+/// A table of columns of whole numbers of these names.
+fn integers(
+    alloc: Global,
+    names: &[&str],
+    index: Option<&str>,
+    limit: Option<i64>,
+) -> Result<Table, Fail> {
     let mut columns = Vec::new(alloc);
     for name in names {
         columns.push(ColumnWords {
@@ -19,32 +25,45 @@ fn integers(alloc: Global, names: &[&str]) -> Result<Schema, Fail> {
             kind: Text::from_str(alloc, "integer")?,
         })?;
     }
-    Ok(Schema::make(alloc, Listed::from_vec(columns), None, None)?)
-}
-
-fn pair(key: i64, cells: Vec<Cell>) -> Pair {
-    Pair {
-        key: Cell::Int(key),
-        row: Listed::from_vec(cells),
+    let index = match index {
+        Some(name) => Some(Text::from_str(alloc, name)?),
+        None => None,
+    };
+    let schema = Schema::make(alloc, Listed::from_vec(columns), index, limit)?;
+    match Table::make(alloc, schema) {
+        Ok(table) => Ok(table),
+        Err((refused, _schema)) => Err(refused.into()),
     }
 }
 
-/// Whether no key stands twice.
-fn are_distinct(pairs: &[Pair]) -> bool
-    ensures { IsTrue result → AreDistinct (map (λ p. p.key) pairs.now) }
-{
-    for (i, pair) in pairs.iter().enumerate() {
-        if stands_in(&pair.key, &pairs[i + 1..]) {
-            return false;
-        }
+fn patch(alloc: Global, cells: &[Cell]) -> Result<Patch, Fail> {
+    let mut patch = Patch::new(alloc);
+    for cell in cells {
+        patch.push(PatchCell::Set(cell.copy(alloc)?))?;
     }
-    true
+    Ok(patch)
 }
 
-fn stands_in(key: &Cell, pairs: &[Pair]) -> bool
-    ensures { result ≡ list_any (λ p. same_cell p.key key.now) pairs.now }
-{
-    pairs.iter().any(|pair| pair.key.order(key).is_eq())
+/// Puts rows of one whole number each.
+fn put_numbers(
+    rt: &impl Abort,
+    alloc: Global,
+    table: &mut Table,
+    numbers: &[i64],
+) -> Result<(), Fail> {
+    let mut patches = Patches::new(alloc);
+    for number in numbers {
+        patches.push(patch(alloc, &[Cell::Int(*number)])?)?;
+    }
+    put(rt, alloc, table, &Batch::Update(patches))
+}
+
+fn put(rt: &impl Abort, alloc: Global, table: &mut Table, batch: &Batch) -> Result<(), Fail> {
+    assert!(rt; is_shaped(table.schema(), batch));
+    assert!(rt; check(table.schema(), batch).is_ok());
+    let prepared = table.prepare(alloc, batch)?;
+    table.apply(prepared);
+    Ok(())
 }
 
 /// What is shown, as a text: the header, and a line for each row.
@@ -67,25 +86,49 @@ fn text_of(alloc: Global, shown: &Shown) -> Result<String, Fail> {
     Ok(text)
 }
 
-fn shown_of(
+/// What a view of the table shows.
+fn shown(alloc: Global, table: &Table) -> Result<Shown, Fail> {
+    shown_by::<Brand>(alloc, table, Blank::new(1))
+}
+
+fn shown_by<L: Ledger>(alloc: Global, table: &Table, blank: Blank) -> Result<Shown, Fail>
+    requires name { blank.name ≡ L.name }
+    requires parts { blank.parts ≡ L.parts }
+    requires some { 0 < L.parts }
+{
+    let mut steps = Steps::<L>::make(blank);
+    Ok(show(alloc, table, &mut steps)?)
+}
+
+fn window(alloc: Global, table: &Table, first: u64, end: u64) -> Result<(Shown, u64), Fail> {
+    window_by::<Brand>(alloc, table, first, end, Blank::new(1))
+}
+
+fn window_by<L: Ledger>(
     alloc: Global,
-    rt: &impl Abort,
-    schema: &Schema,
-    pairs: &[Pair],
-) -> Result<String, Fail> {
-    assert!(rt; are_distinct(pairs));
-    text_of(alloc, &show(alloc, schema, pairs)?)
+    table: &Table,
+    first: u64,
+    end: u64,
+    blank: Blank,
+) -> Result<(Shown, u64), Fail>
+    requires name { blank.name ≡ L.name }
+    requires parts { blank.parts ≡ L.parts }
+    requires some { 0 < L.parts }
+{
+    let mut steps = Steps::<L>::make(blank);
+    Ok(show_window(alloc, table, first, end, &mut steps)?)
 }
 
 #[test]
 fn rows_of_an_indexed_table(rt: HostRuntime) -> Result<(), Fail> {
     let alloc = rt.alloc();
-    let schema = integers(alloc, &["k", "v"])?;
-    let mut pairs = Vec::new(alloc);
+    let mut table = integers(alloc, &["k", "v"], Some("k"), None)?;
+    let mut patches = Patches::new(alloc);
     for (key, value) in [(3, Cell::Null), (2, Cell::Int(5)), (1, Cell::Int(7))] {
-        pairs.push(pair(key, vec![in alloc; Cell::Int(key), value]?))?;
+        patches.push(patch(alloc, &[Cell::Int(key), value])?)?;
     }
-    let text = shown_of(alloc, &rt, &schema, &pairs)?;
+    put(&rt, alloc, &mut table, &Batch::Update(patches))?;
+    let text = text_of(alloc, &shown(alloc, &table)?)?;
     assert_eq!(rt;
         text.as_str(),
         "k integer;v integer;\nRow(Int(1)) false k=Whole(1) v=Whole(7)\nRow(Int(2)) false k=Whole(2) v=Whole(5)\nRow(Int(3)) false k=Whole(3)"
@@ -96,12 +139,9 @@ fn rows_of_an_indexed_table(rt: HostRuntime) -> Result<(), Fail> {
 #[test]
 fn rows_of_a_limited_table(rt: HostRuntime) -> Result<(), Fail> {
     let alloc = rt.alloc();
-    let schema = integers(alloc, &["v"])?;
-    let mut pairs = Vec::new(alloc);
-    for (slot, value) in [(2, 2), (0, 3), (1, 4)] {
-        pairs.push(pair(slot, vec![in alloc; Cell::Int(value)]?))?;
-    }
-    let text = shown_of(alloc, &rt, &schema, &pairs)?;
+    let mut table = integers(alloc, &["v"], None, Some(3))?;
+    put_numbers(&rt, alloc, &mut table, &[0, 1, 2, 3, 4])?;
+    let text = text_of(alloc, &shown(alloc, &table)?)?;
     assert_eq!(rt;
         text.as_str(),
         "v integer;\nRow(Int(0)) false v=Whole(3)\nRow(Int(1)) false v=Whole(4)\nRow(Int(2)) false v=Whole(2)"
@@ -112,14 +152,13 @@ fn rows_of_a_limited_table(rt: HostRuntime) -> Result<(), Fail> {
 #[test]
 fn a_thousand_rows_ascend(rt: HostRuntime) -> Result<(), Fail> {
     let alloc = rt.alloc();
-    let schema = integers(alloc, &["v"])?;
-    let mut pairs = Vec::new(alloc);
+    let mut table = integers(alloc, &["v"], Some("v"), None)?;
+    let mut numbers = Vec::new(alloc);
     for i in 0..1000u32 {
-        let key = i64::from(i * 617 % 1000).wrapping_sub(500);
-        pairs.push(pair(key, vec![in alloc; Cell::Int(key)]?))?;
+        numbers.push(i64::from(i * 617 % 1000).wrapping_sub(500))?;
     }
-    assert!(rt; are_distinct(&pairs));
-    let shown = show(alloc, &schema, &pairs)?;
+    put_numbers(&rt, alloc, &mut table, &numbers)?;
+    let shown = shown(alloc, &table)?;
     assert_eq!(rt; shown.rows.as_slice().len(), 1000);
     let mut want = -500i64;
     for row in shown.rows.as_slice() {
@@ -145,12 +184,8 @@ fn has_keys(window: &(Shown, u64), key: i64, count: usize, size: usize) -> bool 
 #[test]
 fn windows(rt: HostRuntime) -> Result<(), Fail> {
     let alloc = rt.alloc();
-    let schema = integers(alloc, &["v"])?;
-    let mut pairs = Vec::new(alloc);
-    for key in [1, -1, 0] {
-        pairs.push(pair(key, vec![in alloc; Cell::Int(1)]?))?;
-    }
-    assert!(rt; are_distinct(&pairs));
+    let mut table = integers(alloc, &["v"], Some("v"), None)?;
+    put_numbers(&rt, alloc, &mut table, &[1, -1, 0])?;
     for (first, end, key, count) in [
         (0, 3, -1, 3),
         (0, u64::MAX, -1, 3),
@@ -163,7 +198,7 @@ fn windows(rt: HostRuntime) -> Result<(), Fail> {
         (3, 9, 0, 0),
         (u64::MAX, u64::MAX, 0, 0),
     ] {
-        let window = show_window(alloc, &schema, &pairs, first, end)?;
+        let window = window(alloc, &table, first, end)?;
         assert!(rt; has_keys(&window, key, count, 3), "from {first} to {end}");
     }
     Ok(())
@@ -172,8 +207,8 @@ fn windows(rt: HostRuntime) -> Result<(), Fail> {
 #[test]
 fn window_of_no_rows(rt: HostRuntime) -> Result<(), Fail> {
     let alloc = rt.alloc();
-    let schema = integers(alloc, &["v"])?;
-    let window = show_window(alloc, &schema, &[], 0, 9)?;
+    let table = integers(alloc, &["v"], None, None)?;
+    let window = window(alloc, &table, 0, 9)?;
     assert!(rt; has_keys(&window, 0, 0, 0));
     Ok(())
 }

@@ -6,12 +6,12 @@ use Rattle.plain_view.proofs.RowLaws.{same_shown, window_from_entries}
 use Rattle.plain_view.proofs.flat.show_window.Goals as goal
 
 pub returns-clause-shown : goal.returns-clause-shown
-returns-clause-shown c =
-    let columns = c.args.schema.now.columns in
-    let pairs = c.args.pairs.now in
+returns-clause-shown g c =
+    let pairs = c.args.table.now.store.pairs in
+    let columns : c.columns-columns.result.now ≡ c.args.table.now.schema.columns = c.columns-columns.ensures ∙ ap (λ s. s.columns) c.schema.ensures in
     let entries = c.in_ok-by_key.by_key.entries in
-    let made : entries ≡ map (λ (p : Pair). (p.key, cells_of columns p.row)) (sorted_by by_place pairs) =
-    c.in_ok-by_key.ensures ∙ ap (λ (cs : _). map (λ (p : Pair). (p.key, cells_of cs p.row)) (sorted_by by_place pairs)) c.columns-2.ensures in
+    let made : entries ≡ map (λ (p : Pair). (p.key, cells_of c.args.table.now.schema.columns p.row)) (sorted_by by_place pairs) =
+    c.in_ok-by_key.ensures ∙ ap (λ (cs : _). map (λ (p : Pair). (p.key, cells_of cs p.row)) (sorted_by by_place pairs)) columns in
     same_shown _ _
-    (c.in_ok-header.ensures ∙ ap (λ cs. map header_column cs) c.columns.ensures)
-    (c.in_ok-rows.ensures ∙ window_from_entries columns pairs c.args.first c.args.end entries made)
+    (c.in_ok-header.ensures ∙ ap (λ cs. map header_column cs) columns)
+    (c.in_ok-rows.ensures ∙ window_from_entries c.args.table.now.schema.columns pairs c.args.first c.args.end entries made)
