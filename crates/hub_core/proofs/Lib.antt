@@ -3,11 +3,14 @@ pub mod Counting
 pub mod Fresh
 pub mod Live
 pub mod Numbers
+pub mod Parts
 pub mod PortChanges
 pub mod PortDeeds
 pub mod Refusing
+pub mod RowOrders
 pub mod Rooms
 pub mod Stepping
 pub mod TableChanges
+pub mod Takings
 pub mod ViewChanges
 pub mod ViewDeeds

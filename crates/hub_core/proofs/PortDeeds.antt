@@ -12,6 +12,7 @@ use Rattle.cell_core.specs.declared.schema.ColumnWords.{ColumnWords}
 use Rattle.row_batch.specs.Batches.{put_batch}
 use Rattle.row_batch.specs.Checks.{IsChecked, counted_fault, patches_fault}
 use Rattle.row_batch.specs.Reading.{RefusesRows}
+use Rattle.row_batch.specs.Tables.{IsReordered}
 use Rattle.row_batch.specs.declared.batch.Batch.TheVariants as batch
 use Rattle.row_batch.specs.declared.batch.PatchCell.{PatchCell}
 use Rattle.row_batch.specs.declared.batch.Batch.{Batch}
@@ -38,17 +39,21 @@ use Rattle.hub_spec.specs.Reading.{read_batch, read_as, batch_asked}
 use Rattle.hub_spec.specs.Room.{rows_with, rows_of_all}
 use Rattle.hub_spec.specs.Rows as rows
 use Rattle.std.proofs.lemmas.List.{length-map}
+use Rattle.std.proofs.lemmas.List.Sorted.{length_permutation}
+use Rattle.table_core.specs.Tables.{TableData}
 use Rattle.hub_core.specs.Holding.{Holds, HoldsPorts, Does, DoesBy, plain_in, put_answer, rows_answer, with_step}
 use Rattle.hub_core.specs.KeptPorts.{kept_port}
 use Rattle.hub_core.specs.Refusing.{rows_refusal}
 use Rattle.hub_core.specs.Rooms.{over, room_taken}
-use Rattle.hub_core.specs.Tables.{TableData, schema_in, store_in}
+use Rattle.hub_core.specs.Tables.{schema_in, store_in}
 use Rattle.hub_core.specs.declared.machine.Machine.{Machine}
 use Rattle.hub_core.proofs.Checks.{Check, two_pass, two_stop, passes, stops, IsOther, GoesByAnswer, may_want}
 use Rattle.hub_core.proofs.Counting.{accepted_le, applied_le}
 use Rattle.hub_core.proofs.Live.{port_is, port_made, not_kept, unused_is, all_waiting_is}
+use Rattle.hub_core.proofs.Parts.{HasParts, holds_by}
 use Rattle.hub_core.proofs.PortChanges.{queued_ports, applied_ports, closed_ports, made_ports}
 use Rattle.hub_core.proofs.Refusing.{refused_does, wanted_does}
+use Rattle.hub_core.proofs.RowOrders.{rows_of_all-IsPermutation, store_keyed}
 use Rattle.hub_core.proofs.TableChanges.{applied_table}
 
 -- ---- the checks of a request that needs an open port
@@ -58,6 +63,10 @@ table_made m past t h is = sym h.table.schema ∙ ap schema_in is
 
 pub no_table_made : (m : Machine) (past : List Answered) → Holds m past → m.table ≡ None → ports.schema past ≡ None
 no_table_made m past h is = sym h.table.schema ∙ ap schema_in is
+
+-- the table's rows are the history's in some order
+pub table_rows : (m : Machine) (past : List Answered) (t : TableData) → Holds m past → m.table ≡ Some t → IsReordered (rows.store past) t.store
+table_rows m past t h is = subst (λ o. IsReordered (rows.store past) (store_in o)) is h.table.kept
 
 -- without a table
 pub table_stop : (m : Machine) (past : List Answered) (session : ℕ) (request : Ask) (rest : List Check) (plain granted : Body)
@@ -203,15 +212,15 @@ pub put_done : (m : Machine) (past : List Answered) (session : ℕ) (request : A
     → Holds m past → place < length m.ports.live → (port_at m.ports.live place).queue.closed ≡ false
     → batch_asked (ports.schema past) request ≡ Some b
     → put_outcome (port_at m.ports.live place).queue b ≡ Ok seq
-    → DoesBy (put_answer past (port_at m.ports.live place).number) past session request (body.Queued (port_at m.ports.live place).number seq)
-    (record m { ports = record m.ports { live = put_on m.ports.live place b } })
-put_done m past session request place seq b h lt is_open asked out = record {
+    → (after : Machine) → HasParts after m.table m.version (record m.ports { live = put_on m.ports.live place b }) m.views.items m.opened
+    → DoesBy (put_answer past (port_at m.ports.live place).number) past session request (body.Queued (port_at m.ports.live place).number seq) after
+put_done m past session request place seq b h lt is_open asked out after parts = record {
   given = record { right = sym (put_is m past place h lt ∙ room_by _ b _ seq _ (sym (put_open m past place b is_open) ∙ out)); allowed = refl };
-  holds = λ n version. record {
-    table = record { schema = h.table.schema; kept = h.table.kept; version = h.table.version; bare = h.table.bare };
-    ports = queued_ports m.ports past session request n version place seq b h.ports lt is_open asked;
-    views = record { views = h.views.views; sessions = h.views.sessions; opened = h.views.opened };
-  };
+  holds = λ n version.
+      holds_by after m.table m.version (record m.ports { live = put_on m.ports.live place b }) m.views.items m.opened _ parts
+      (record { schema = h.table.schema; kept = h.table.kept; version = h.table.version; bare = h.table.bare })
+      (queued_ports m.ports past session request n version place seq b h.ports lt is_open asked)
+      (record { views = h.views.views; sessions = h.views.sessions; opened = h.views.opened });
 }
 
 -- ---- a batch that puts rows
@@ -221,10 +230,9 @@ room_is : (m : Machine) (past : List Answered) (t : TableData) (b : Batch) → H
 room_is m past t b h is =
     let some : ports.schema past ≡ Some t.schema = table_made m past t h is in
     let keeping : (rows.schema_or_none past).keeping ≡ t.schema.keeping = ap (λ o. (unwrap_or o rows.no_schema).keeping) some in
-    let pairs : rows.rows past ≡ t.store.pairs = ap (λ s. s.pairs) (sym h.table.kept ∙ ap store_in is) in
     let waits = all_waiting_is past m.ports h.ports in
     let count : rows_with (rows.schema_or_none past).keeping past b ≡ room_taken m.table m.ports b =
-    ap (λ k. rows_with k past b) keeping ∙ ap (λ ps. rows_of_all t.schema.keeping ps (ports.all_waiting past ++ b ∷ [])) pairs
+    ap (λ k. rows_with k past b) keeping ∙ rows_of_all-IsPermutation t.schema.keeping (rows.rows past) t.store.pairs (ports.all_waiting past ++ b ∷ []) (store_keyed past).0 (table_rows m past t h is).pairs
     ∙ ap (λ ws. rows_of_all t.schema.keeping t.store.pairs (ws ++ b ∷ [])) waits
     ∙ ap (λ o. room_taken o m.ports b) (sym is) in
     ap too_many_rows count
@@ -294,18 +302,19 @@ make_full m past session t h is full =
     refused_does m past session ask.port (plain_in past session ask.port) too_many_ports h (rw (some, many) refl) refl
 
 pub make_done : (m : Machine) (past : List Answered) (session : ℕ) (t : TableData) → Holds m past → m.table ≡ Some t → leb 16 (length m.ports.live) ≡ false
-    → Does past session ask.port (body.Port m.ports.made) (record m { ports = with_port m.ports })
-make_done m past session t h is free =
+    → (after : Machine) → HasParts after m.table m.version (with_port m.ports) m.views.items m.opened
+    → Does past session ask.port (body.Port m.ports.made) after
+make_done m past session t h is free after parts =
     let some = table_made m past t h is in
     let few : leb 16 (length (ports.used_ports past)) ≡ false = ap (leb 16) (used_count m past h) ∙ free in
     let plain : plain_in past session ask.port ≡ body.Port (ports.ports past) = rw (some, few) refl in
     record {
       given = record { right = ap body.Port h.ports.made ∙ sym plain; allowed = refl };
-      holds = λ n version. record {
-        table = record { schema = h.table.schema; kept = h.table.kept; version = h.table.version; bare = h.table.bare };
-        ports = made_ports m.ports past session ask.port n version m.ports.made h.ports;
-        views = record { views = h.views.views; sessions = h.views.sessions; opened = h.views.opened };
-      };
+      holds = λ n version.
+          holds_by after m.table m.version (with_port m.ports) m.views.items m.opened _ parts
+          (record { schema = h.table.schema; kept = h.table.kept; version = h.table.version; bare = h.table.bare })
+          (made_ports m.ports past session ask.port n version m.ports.made h.ports)
+          (record { views = h.views.views; sessions = h.views.sessions; opened = h.views.opened });
     }
 
 pub make_wants : (m : Machine) (past : List Answered) (session : ℕ) (t : TableData) → Holds m past → m.table ≡ Some t → leb 16 (length m.ports.live) ≡ false
@@ -317,17 +326,18 @@ make_wants m past session t h is free =
 
 pub close_done : (m : Machine) (past : List Answered) (session port place : ℕ) (t : TableData) → Holds m past → m.table ≡ Some t → place < length m.ports.live
     → (port_at m.ports.live place).number ≡ port → first_fault (without_port past port ∷ closed_port past port ∷ []) ≡ None
-    → Does past session (ask.close_port port) (body.PortClosed port) (record m { ports = record m.ports { live = closed_at m.ports.live place } })
-close_done m past session port place t h is lt number is_open =
-    let after : Machine = record m { ports = record m.ports { live = closed_at m.ports.live place } } in
+    → (after : Machine) → HasParts after m.table m.version (record m.ports { live = closed_at m.ports.live place }) m.views.items m.opened
+    → Does past session (ask.close_port port) (body.PortClosed port) after
+close_done m past session port place t h is lt number is_open after parts =
+    let kept : PortsData = record m.ports { live = closed_at m.ports.live place } in
     record {
       given = record { right = sym (port_pass m past port [] (body.PortClosed port) t h is is_open); allowed = refl };
-      holds = λ n version. record {
-        table = record { schema = h.table.schema; kept = h.table.kept; version = h.table.version; bare = h.table.bare };
-        ports = subst (λ p. HoldsPorts after.ports (with_step session (ask.close_port port) n version (body.PortClosed p) past)) number
-            (closed_ports m.ports past session (ask.close_port port) n version place h.ports lt);
-        views = record { views = h.views.views; sessions = h.views.sessions; opened = h.views.opened };
-      };
+      holds = λ n version.
+          holds_by after m.table m.version kept m.views.items m.opened _ parts
+          (record { schema = h.table.schema; kept = h.table.kept; version = h.table.version; bare = h.table.bare })
+          (subst (λ p. HoldsPorts kept (with_step session (ask.close_port port) n version (body.PortClosed p) past)) number
+          (closed_ports m.ports past session (ask.close_port port) n version place h.ports lt))
+          (record { views = h.views.views; sessions = h.views.sessions; opened = h.views.opened });
     }
 
 -- ---- the oldest batch is applied
@@ -370,12 +380,12 @@ first_and_rest (y ∷ ys) x e = let same : y ≡ x = cc in ap (λ z. z ∷ ys) s
 pub apply_done : (m : Machine) (past : List Answered) (session port place : ℕ) (before table : TableData) (number seq : ℕ) (b : Batch)
     → Holds m past → length past < 2 ^ 53 → m.table ≡ Some before
     → place < length m.ports.live → (port_at m.ports.live place).number ≡ port
-    → slice_get (port_at m.ports.live place).queue.waiting 0 ≡ Some b → table.schema ≡ before.schema → table.store ≡ put_batch before.schema before.store b
+    → slice_get (port_at m.ports.live place).queue.waiting 0 ≡ Some b → table.schema ≡ before.schema → IsReordered (put_batch before.schema before.store b) table.store
     → number ≡ min (m.version + 1) (2 ^ 64 - 1)
     → seq ≡ min ((port_at m.ports.live place).queue.accepted - length (port_at m.ports.live place).queue.waiting + 1) (2 ^ 64 - 1)
-    → Does past session (ask.apply port) (body.Applied port seq)
-    (record m { table = Some table; version = number; ports = record m.ports { live = taken_off m.ports.live place } })
-apply_done m past session port place before table number seq b h few is lt at front same put next seq_is =
+    → (after : Machine) → HasParts after (Some table) number (record m.ports { live = taken_off m.ports.live place }) m.views.items m.opened
+    → Does past session (ask.apply port) (body.Applied port seq) after
+apply_done m past session port place before table number seq b h few is lt at front same put next seq_is after parts =
     let some : ports.schema past ≡ Some before.schema = table_made m past before h is in
     let p = port_at m.ports.live place in
     let was = (port_is past m.ports place h.ports lt).0 in
@@ -397,15 +407,15 @@ apply_done m past session port place before table number seq b h few is lt at fr
     let one_more : seq ≡ ports.taken past port + 1 = omega (arith, seq_is, taken, h.ports.within port, accepted_le past port) in
     let raised : number ≡ m.version + 1 = omega (arith, next, h.table.version, applied_le past) in
     let waiting_some : 0 < length p.queue.waiting = omega (arith, ap length (first_and_rest p.queue.waiting b front)) in
-    let after : PortsData = record m.ports { live = taken_off m.ports.live place } in
+    let kept : PortsData = record m.ports { live = taken_off m.ports.live place } in
     record {
       given = record { right = ap (body.Applied port) one_more ∙ sym plain; allowed = refl };
-      holds = λ n version. record {
-        table = rw raised (applied_table m.table before table m.version past session (ask.apply port) n version port seq b (drop 1 p.queue.waiting) h.table is first same put);
-        ports = subst (λ k. HoldsPorts after (with_step session (ask.apply port) n version (body.Applied k seq) past)) at
-            (applied_ports m.ports past session (ask.apply port) n version place seq h.ports lt waiting_some);
-        views = record { views = h.views.views; sessions = h.views.sessions; opened = h.views.opened };
-      };
+      holds = λ n version.
+          holds_by after (Some table) number kept m.views.items m.opened _ parts
+          (rw raised (applied_table m.table before table m.version past session (ask.apply port) n version port seq b (drop 1 p.queue.waiting) h.table is first same put))
+          (subst (λ k. HoldsPorts kept (with_step session (ask.apply port) n version (body.Applied k seq) past)) at
+          (applied_ports m.ports past session (ask.apply port) n version place seq h.ports lt waiting_some))
+          (record { views = h.views.views; sessions = h.views.sessions; opened = h.views.opened });
     }
 
 -- what a request queues has a table
@@ -428,7 +438,7 @@ pub info_does : (m : Machine) (past : List Answered) (session : ℕ) (t : TableD
     → Does past session ask.info (body.Info columns index limit size waits) m
 info_does m past session t columns index limit size waits h is columns_are index_is limit_is size_is waits_are =
     let some : ports.schema past ≡ Some t.schema = table_made m past t h is in
-    let pairs : length (rows.rows past) ≡ length t.store.pairs = ap (λ s. length s.pairs) (sym h.table.kept ∙ ap store_in is) in
+    let pairs : length (rows.rows past) ≡ length t.store.pairs = sym (length_permutation (rows.rows past) t.store.pairs (table_rows m past t h is).pairs) in
     let batches : length (ports.all_waiting past) ≡ length (waiting_on m.ports.live) = ap length (all_waiting_is past m.ports h.ports) in
     let plain : plain_in past session ask.info ≡ body.Info (map column_words t.schema.columns) (index_name t.schema t.schema.keeping) (limit_in t.schema.keeping) (length (rows.rows past)) (length (ports.all_waiting past)) =
     rw some refl in

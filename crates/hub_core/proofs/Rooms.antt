@@ -1,9 +1,10 @@
 -- Keys that are counted once.
-use Rattle.std.proofs.Common.{◌≡◌, ◌≢◌, ℕ, suc, zero, ◌+◌, ◌<◌, ◌≤◌, add-one, take, get_or, sum_by, All, Bool, true, false, ◌||◌, ◌&&◌, List, [], ◌∷◌, ◌++◌, length, map, Ordering, Less, Equal, Greater, Some, None, refl, sym, ap, ◌∙◌, arith, subst, length-append}
+use Rattle.std.proofs.Common.{◌≡◌, ◌≢◌, ℕ, suc, zero, ◌+◌, ◌<◌, ◌≤◌, add-one, take, get_or, sum_by, All, Bool, true, false, ◌||◌, ◌&&◌, List, [], ◌∷◌, ◌++◌, length, map, Ordering, Less, Equal, Greater, Option, Some, None, Bor, refl, sym, ap, ◌∙◌, arith, subst, length-append}
 use Rattle.std.specs.Prelude.{not, is_some, slice_get, if◌then◌else◌}
 use Rattle.std.specs.BTreeMap.{BTreeMap, insert_entry, is_at}
 use Rattle.std.specs.List.{list_any, flat_map}
 use Rattle.std.specs.Map.{lookup}
+use Rattle.std.specs.Option.{option_copied}
 use Rattle.std.proofs.Math.Seq.{take-suc}
 use Rattle.std.proofs.lemmas.Bool.{le-ltb, lt-ltb}
 use Rattle.std.proofs.lemmas.List.{length-map, map-append}
@@ -20,6 +21,7 @@ use Rattle.cell_core.specs.declared.schema.Keeping.{Keeping}
 use Rattle.cell_core.specs.declared.schema.Keeping.TheVariants.{Indexed, Limited, Free}
 use Rattle.plain_data.specs.Distinct.{AreDistinct}
 use Rattle.row_batch.specs.Batches.{key_in, rows_in}
+use Rattle.row_batch.specs.Changes.{row_at}
 use Rattle.row_batch.specs.Tables.{keys_of_rows}
 use Rattle.row_batch.specs.declared.batch.Batch.{Batch}
 use Rattle.row_batch.specs.declared.batch.Batch.TheVariants as batch
@@ -28,8 +30,8 @@ use Rattle.row_batch.specs.declared.batch.PatchCell.{PatchCell}
 use Rattle.hub_ports.specs.Ports.{PortsData, waiting_on}
 use Rattle.hub_ports.specs.declared.ports.Port.{Port}
 use Rattle.hub_spec.specs.Room.{different, keys_put, rows_of_all}
+use Rattle.table_core.specs.Tables.{TableData}
 use Rattle.hub_core.specs.Rooms.{IsCounted, over, room_taken}
-use Rattle.hub_core.specs.Tables.{TableData}
 
 abbrev Entry : Type 0
 Entry = Cell × Unit {0}
@@ -56,7 +58,7 @@ or_false_right : (b : Bool) → (b || false) ≡ b
 or_false_right true = refl
 or_false_right false = refl
 
-any-snoc : (test : Cell → Bool) (ks : List Cell) (k : Cell) → list_any test (ks ++ k ∷ []) ≡ (list_any test ks || test k)
+pub any-snoc : (test : Cell → Bool) (ks : List Cell) (k : Cell) → list_any test (ks ++ k ∷ []) ≡ (list_any test ks || test k)
 any-snoc test ks k = list_any-append test ks (k ∷ []) ∙ ap (λ b. list_any test ks || b) (or_false_right (test k))
 
 -- ---- how many are different
@@ -76,7 +78,7 @@ counted_by true false false d same = refl
 counted_by false true false d same = refl
 counted_by false false false d same = refl
 
-different-snoc : (ks : List Cell) (k : Cell) → different (ks ++ k ∷ []) ≡ (if list_any (same_cell k) ks then different ks else different ks + 1)
+pub different-snoc : (ks : List Cell) (k : Cell) → different (ks ++ k ∷ []) ≡ (if list_any (same_cell k) ks then different ks else different ks + 1)
 different-snoc [] k = refl
 different-snoc (x ∷ xs) k =
     let twice : same_cell x k ≡ true → list_any (same_cell x) xs ≡ list_any (same_cell k) xs = λ e. ap (λ c. list_any (same_cell c) xs) (same_is x k e) in
@@ -135,7 +137,7 @@ looked_up k (e ∷ es) =
 
 -- ---- one key more
 
-append_assoc : (xs ys zs : List Cell) → (xs ++ ys) ++ zs ≡ xs ++ (ys ++ zs)
+pub append_assoc : (xs ys zs : List Cell) → (xs ++ ys) ++ zs ≡ xs ++ (ys ++ zs)
 append_assoc [] ys zs = refl
 append_assoc (x ∷ xs) ys zs = ap (λ t. x ∷ t) (append_assoc xs ys zs)
 
@@ -205,6 +207,22 @@ any-keys : (k : Cell) (pairs : List Pair) → list_any (same_cell k) (keys_of_ro
 any-keys k [] = refl
 any-keys k (p ∷ ps) = ap (λ b. same_cell k p.key || b) (any-keys k ps)
 
+row_there : (k : Cell) (pairs : List Pair) → is_some (row_at pairs k) ≡ list_any (λ p. same_cell k p.key) pairs
+row_there k [] = refl
+row_there k (p ∷ ps) =
+    elim (same_cell k p.key) as (λ b. is_some (if b then Some p.row else row_at ps k) ≡ (b || list_any (λ q. same_cell k q.key) ps)) [
+      | true ↦ refl
+      | false ↦ row_there k ps
+    ]
+
+some_copied : (o : Option (Bor (List Cell))) → is_some o ≡ is_some (option_copied o)
+some_copied None = refl
+some_copied (Some row) = refl
+
+-- a row is found where one has the key
+pub row_found : (k : Cell) (pairs : List Pair) (o : Option (Bor (List Cell))) → option_copied o ≡ row_at pairs k → is_some o ≡ list_any (λ p. same_cell k p.key) pairs
+row_found k pairs o is = some_copied o ∙ ap is_some is ∙ row_there k pairs
+
 pub no_row_has : (k : Cell) (pairs : List Pair) (r : Bool) → r ≡ list_any (λ p. same_cell k p.key) pairs → r ≡ false → list_any (same_cell k) (keys_of_rows pairs) ≡ false
 no_row_has k pairs r is none = any-keys k pairs ∙ sym is ∙ none
 
@@ -237,7 +255,7 @@ none_same : (k : Cell) (ks : List Cell) → All (λ y. y ≢ k) ks → list_any 
 none_same k [] h = refl
 none_same k (y ∷ ys) h = rw (apart_is k y (All-head (λ z. z ≢ k) y ys h)) (none_same k ys (All-tail (λ z. z ≢ k) y ys h))
 
-different-distinct : (ks : List Cell) → AreDistinct ks → different ks ≡ length ks
+pub different-distinct : (ks : List Cell) → AreDistinct ks → different ks ≡ length ks
 different-distinct [] h = refl
 different-distinct (k ∷ ks) h = rw (none_same k ks h.0) (ap (λ n. n + 1) (different-distinct ks h.1) ∙ count_one ks)
   where
@@ -248,7 +266,7 @@ and_none : (b : Bool) → false ≡ (b && false)
 and_none true = refl
 and_none false = refl
 
-append_none : {X : Type 0} (xs : List X) → xs ++ [] ≡ xs
+pub append_none : {X : Type 0} (xs : List X) → xs ++ [] ≡ xs
 append_none [] = refl
 append_none (x ∷ xs) = ap (λ ys. x ∷ ys) (append_none xs)
 

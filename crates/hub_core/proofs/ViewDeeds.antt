@@ -8,20 +8,23 @@ use Rattle.frame_types.specs.Refusals.{no_view, view_lost, bad_window, too_many_
 use Rattle.frame_types.specs.declared.reply.Body.{Body}
 use Rattle.frame_types.specs.declared.reply.Body.TheVariants as body
 use Rattle.plain_view.specs.Flat.{flat_view, window}
+use Rattle.plain_view.proofs.PlaceLaws.{flat_view-IsPermutation}
 use Rattle.view_types.specs.declared.shown.Shown.{Shown}
 use Rattle.hub_spec.specs.Answered.{Answered}
 use Rattle.hub_spec.specs.Answers.{first_of, granted, is_empty_plan, lost_view, window_of}
 use Rattle.hub_spec.specs.HeldViews as held
 use Rattle.hub_spec.specs.Ports as ports
 use Rattle.hub_spec.specs.Rows as rows
+use Rattle.table_core.specs.Tables.{TableData}
 use Rattle.hub_core.specs.Holding.{Holds, Does, plain_in}
 use Rattle.hub_core.specs.KeptViews.{kept_view, is_kept}
-use Rattle.hub_core.specs.Tables.{TableData, store_in}
 use Rattle.hub_core.specs.declared.machine.Machine.{Machine}
 use Rattle.hub_core.specs.declared.views.View.{View}
 use Rattle.hub_core.proofs.Counting.{times_le}
-use Rattle.hub_core.proofs.PortDeeds.{table_made}
+use Rattle.hub_core.proofs.Parts.{HasParts, holds_by}
+use Rattle.hub_core.proofs.PortDeeds.{table_made, table_rows}
 use Rattle.hub_core.proofs.Refusing.{refused_does}
+use Rattle.hub_core.proofs.RowOrders.{store_keyed}
 use Rattle.hub_core.proofs.ViewChanges.{opened_views, closed_views, left_views, held_is, find-kept}
 
 -- ---- a view is opened
@@ -31,8 +34,8 @@ shows_rows : (m : Machine) (past : List Answered) (t : TableData) (v : held.Held
     → held.shown past v ≡ flat_view t.schema t.store.pairs
 shows_rows m past t v h is =
     let some : ports.schema past ≡ Some t.schema = table_made m past t h is in
-    let pairs : rows.rows past ≡ t.store.pairs = ap (λ s. s.pairs) (sym h.table.kept ∙ ap store_in is) in
-    ap (λ o. flat_view (unwrap_or o rows.no_schema) (rows.rows past)) some ∙ ap (flat_view t.schema) pairs
+    ap (λ o. flat_view (unwrap_or o rows.no_schema) (rows.rows past)) some
+    ∙ flat_view-IsPermutation t.schema (rows.rows past) t.store.pairs (store_keyed past).0 (table_rows m past t h is).pairs
 
 held_count : (m : Machine) (past : List Answered) → Holds m past → length (held.views past) ≡ length m.views.items
 held_count m past h = sym (ap length h.views.views ∙ length-map (held.views past) kept_view)
@@ -51,8 +54,9 @@ pub open_does : (m : Machine) (past : List Answered) (session : ℕ) (plan : Raw
     → m.table ≡ Some t → leb 16 (length m.views.items) ≡ false → is_empty_plan plan ≡ true → shown ≡ flat_view t.schema t.store.pairs
     → views.items ≡ m.views.items ++ record { session = session; number = get_or m.opened session 0; bound = bound; edit = 0; lost = None } ∷ []
     → next ≡ min (get_or m.opened session 0 + 1) (2 ^ 64 - 1)
-    → Does past session (ask.open_view plan bound) (body.Opened 0 shown (get_or m.opened session 0)) (record m { views = views; opened = set m.opened session next })
-open_does m past session plan bound t shown views next h few lt is room empty shows held_now next_is =
+    → (after : Machine) → HasParts after m.table m.version m.ports views.items (set m.opened session next)
+    → Does past session (ask.open_view plan bound) (body.Opened 0 shown (get_or m.opened session 0)) after
+open_does m past session plan bound t shown views next h few lt is room empty shows held_now next_is after parts =
     let some : ports.schema past ≡ Some t.schema = table_made m past t h is in
     let fits : leb 16 (length (held.views past)) ≡ false = ap (leb 16) (held_count m past h) ∙ room in
     let number : get_or m.opened session 0 ≡ held.opened past session = h.views.opened session lt in
@@ -64,12 +68,12 @@ open_does m past session plan bound t shown views next h few lt is room empty sh
     let raised : next ≡ held.opened past session + 1 = omega (arith, next_is, number, times_le (held.is_opened_in session) past) in
     record {
       given = record { right = sym plain; allowed = refl };
-      holds = λ n version. record {
-        table = record { schema = h.table.schema; kept = h.table.kept; version = h.table.version; bare = h.table.bare };
-        ports = record { made = h.ports.made; live = h.ports.live; within = h.ports.within; unmade = h.ports.unmade };
-        views = rw (held_now, raised, number) (opened_views m.views.items m.opened past session plan bound n version shown
-            (record { session = session; number = held.opened past session; bound = bound; edit = 0; lost = None }) h.views lt refl);
-      };
+      holds = λ n version.
+          holds_by after m.table m.version m.ports views.items (set m.opened session next) _ parts
+          (record { schema = h.table.schema; kept = h.table.kept; version = h.table.version; bare = h.table.bare })
+          (record { made = h.ports.made; live = h.ports.live; within = h.ports.within; unmade = h.ports.unmade })
+          (rw (held_now, raised, number) (opened_views m.views.items m.opened past session plan bound n version shown
+          (record { session = session; number = held.opened past session; bound = bound; edit = 0; lost = None }) h.views lt refl));
     }
 
 -- ---- the rows of a view are shown
@@ -186,18 +190,19 @@ close_refused m past session view t h is missing =
 pub close_does : (m : Machine) (past : List Answered) (session view : ℕ) (t : TableData) (v : View) (views : Vec View Global)
     → Holds m past → m.table ≡ Some t → find (is_kept session view) m.views.items ≡ Some v
     → views.items ≡ filter (λ w. not (is_kept session view w)) m.views.items
-    → Does past session (ask.close view) (body.Closed view) (record m { views = views })
-close_does m past session view t v views h is found now_held =
+    → (after : Machine) → HasParts after m.table m.version m.ports views.items m.opened
+    → Does past session (ask.close view) (body.Closed view) after
+close_does m past session view t v views h is found now_held after parts =
     let some : ports.schema past ≡ Some t.schema = table_made m past t h is in
     let held_one : is_none (held.held past session view) ≡ false = is_held _ v (found_is m past session view h ∙ found) in
     let plain : plain_in past session (ask.close view) ≡ body.Closed view = rw (some, held_one) refl in
     record {
       given = record { right = sym plain; allowed = refl };
-      holds = λ n version. record {
-        table = record { schema = h.table.schema; kept = h.table.kept; version = h.table.version; bare = h.table.bare };
-        ports = record { made = h.ports.made; live = h.ports.live; within = h.ports.within; unmade = h.ports.unmade };
-        views = rw now_held (closed_views m.views.items m.opened past session (ask.close view) n version view h.views);
-      };
+      holds = λ n version.
+          holds_by after m.table m.version m.ports views.items m.opened _ parts
+          (record { schema = h.table.schema; kept = h.table.kept; version = h.table.version; bare = h.table.bare })
+          (record { made = h.ports.made; live = h.ports.live; within = h.ports.within; unmade = h.ports.unmade })
+          (rw now_held (closed_views m.views.items m.opened past session (ask.close view) n version view h.views));
     }
 
 -- ---- a session leaves
@@ -205,14 +210,15 @@ close_does m past session view t v views h is found now_held =
 pub leave_does : (m : Machine) (past : List Answered) (session closed : ℕ) (views : Vec View Global)
     → Holds m past → closed ≡ length (filter (λ v. eqb v.session session) m.views.items)
     → views.items ≡ filter (λ w. not (eqb w.session session)) m.views.items
-    → Does past session ask.leave (body.Left closed) (record m { views = views })
-leave_does m past session closed views h count now_held =
+    → (after : Machine) → HasParts after m.table m.version m.ports views.items m.opened
+    → Does past session ask.leave (body.Left closed) after
+leave_does m past session closed views h count now_held after parts =
     let closes : closed ≡ held.held_by past session = count ∙ held_is m.views.items m.opened past session h.views in
     record {
       given = record { right = ap body.Left closes; allowed = refl };
-      holds = λ n version. record {
-        table = record { schema = h.table.schema; kept = h.table.kept; version = h.table.version; bare = h.table.bare };
-        ports = record { made = h.ports.made; live = h.ports.live; within = h.ports.within; unmade = h.ports.unmade };
-        views = rw now_held (left_views m.views.items m.opened past session ask.leave n version closed h.views);
-      };
+      holds = λ n version.
+          holds_by after m.table m.version m.ports views.items m.opened _ parts
+          (record { schema = h.table.schema; kept = h.table.kept; version = h.table.version; bare = h.table.bare })
+          (record { made = h.ports.made; live = h.ports.live; within = h.ports.within; unmade = h.ports.unmade })
+          (rw now_held (left_views m.views.items m.opened past session ask.leave n version closed h.views));
     }

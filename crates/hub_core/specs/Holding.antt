@@ -1,7 +1,9 @@
 -- What a machine holds after a history.
 use Rattle.std.specs.Prelude.{◌≡◌, ℕ, ◌<◌, ◌≤◌, true, false, List, [], ◌∷◌, length, filter, map, Option, Some, None, slice_index}
 use Rattle.hub_ports.specs.Ports.{PortsData}
+use Rattle.row_batch.specs.Tables.{IsReordered}
 use Rattle.row_batch.specs.declared.batch.Batch.{Batch}
+use Rattle.table_core.specs.Tables.{TableData}
 use Rattle.frame_types.specs.Asks.{Ask}
 use Rattle.frame_types.specs.declared.reply.Body.{Body}
 use Rattle.hub_spec.specs.Answered.{Answered}
@@ -12,13 +14,14 @@ use Rattle.hub_spec.specs.Ports as ports
 use Rattle.hub_spec.specs.Rows as rows
 use Rattle.hub_core.specs.KeptPorts.{kept_port}
 use Rattle.hub_core.specs.KeptViews.{kept_view}
-use Rattle.hub_core.specs.Tables.{TableData, schema_in, store_in}
+use Rattle.hub_core.specs.Tables.{schema_in, store_in}
 use Rattle.hub_core.specs.declared.machine.Machine.{Machine}
 use Rattle.hub_core.specs.declared.views.View.{View}
 
+-- the table's schema and version, and its rows in any order
 pub record HoldsTable (table : Option TableData) (number : ℕ) (past : List Answered) : Type 0 where
   pub schema : schema_in table ≡ ports.schema past
-  pub kept : store_in table ≡ rows.store past
+  pub kept : IsReordered (rows.store past) (store_in table)
   pub version : number ≡ ports.version past
   pub bare : ports.schema past ≡ None → ports.applied past ≡ []
 

@@ -6,3 +6,4 @@ pub mod Refusing
 pub mod Rooms
 pub mod Standing
 pub mod Tables
+pub mod Taken

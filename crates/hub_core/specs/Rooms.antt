@@ -7,7 +7,7 @@ use Rattle.cell_core.specs.declared.cell.Cell.{Cell}
 use Rattle.row_batch.specs.declared.batch.Batch.{Batch}
 use Rattle.hub_ports.specs.Ports.{PortsData, waiting_on}
 use Rattle.hub_spec.specs.Room.{different, rows_of_all}
-use Rattle.hub_core.specs.Tables.{TableData}
+use Rattle.table_core.specs.Tables.{TableData}
 
 -- more than 65,536
 abbrev pub over : ℕ → Option ℕ

@@ -46,7 +46,7 @@ impl Hub {
         self.entries
     }
 
-    /// Answers one request of a session, from 0 to 65, whole.
+    /// Answers one request of a session, from 0 to 65, whole. `steps` counts the visits of the table's rows.
     ///
     /// The refusal for a full history changes nothing. Every other refusal changes the session's
     /// count of requests alone.
@@ -66,7 +66,7 @@ impl Hub {
         }
         self.entries += 1;
         self.counts[session as usize] = n;
-        let body = self.machine.act(session, request);
+        let body = self.machine.act(session, request, steps);
         Reply {
             n,
             version: self.machine.version,

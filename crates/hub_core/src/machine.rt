@@ -1,17 +1,14 @@
-ghost use Rattle.std.specs.Prelude.{◌≡◌, ℕ, List, [], Some, None, IfOk, IfErr, ◌<◌, ◌≤◌, ◌^◌, length};
-ghost use Rattle.frame_types.specs.Asks as ask;
-ghost use Rattle.frame_types.specs.Refusals as refusals;
-ghost use Rattle.hub_spec.specs.Answered.{Answered};
-ghost use Rattle.hub_core.specs.Holding.{Holds, Does};
-ghost use Rattle.hub_core.specs.Refusing.{body_in};
+ghost use Rattle.hub_core.specs.Taken.{AreTaken, AreTaken-prop};
+ghost use Rattle.hub_core.specs.Tables.{schema_in};
 
 use crate::refused;
-use crate::table::Table;
 use crate::views::View;
-use cell_core::{Columns, Schema, SchemaRefused, Text};
+use cell_core::{Columns, Schema, SchemaRefused, Steps, Text};
 use frame_types::{Body, Refusal, Request};
 use hub_ports::Ports;
 use std::alloc::Global;
+use std::sync::ledger::Ledger;
+use table_core::Table;
 
 /// The number of sessions: 64 of clients, the pump's, and the one that stops the desk.
 pub const SESSIONS: usize = 66;
@@ -27,9 +24,20 @@ pub struct Machine {
     pub views: Vec<View>,
     /// How many views each session has opened.
     pub opened: [u64; SESSIONS],
+    /// The table takes each batch that waits.
+    ghost taken: { AreTaken (schema_in table) ports.live } by { AreTaken-prop (schema_in table) ports.live },
 }
 
 impl Machine {
+    ghost use Rattle.std.specs.Prelude.{◌≡◌, ℕ, ℤ, List, [], Option, Some, None, Ok, IfOk, IfErr, ◌<◌, ◌≤◌, ◌^◌, length};
+    ghost use Rattle.cell_core.specs.declared.schema.ColumnWords.{ColumnWords};
+    ghost use Rattle.cell_core.specs.Schemas.{schema_of};
+    ghost use Rattle.frame_types.specs.Asks as ask;
+    ghost use Rattle.frame_types.specs.Refusals as refusals;
+    ghost use Rattle.hub_spec.specs.Answered.{Answered};
+    ghost use Rattle.hub_core.specs.Holding.{Holds, Does};
+    ghost use Rattle.hub_core.specs.Refusing.{body_in};
+
     /// The machine before any request.
     pub fn new(alloc: Global) -> Machine
         ensures { Holds result [] }
@@ -45,19 +53,24 @@ impl Machine {
     }
 
     /// Answers one request of a session, where the history isn't full.
-    pub fn act(&mut self, session: u32, request: Request) -> Body
+    pub fn act<L: Ledger>(&mut self, session: u32, request: Request, steps: &mut Steps<L>) -> Body
         requires { session ≤ 65 }
         ensures { (past : List Answered) → Holds self.old past → length past < 2 ^ 53
             → Does past session (ask.request_view request) result self.new }
     {
-        match self.answer(session, request) {
+        match self.answer(session, request, steps) {
             Ok(answer) => answer,
             Err(why) => Body::Refused(why),
         }
     }
 
     /// The answer to a request, or why it is refused.
-    fn answer(&mut self, session: u32, request: Request) -> Result<Body, Refusal>
+    fn answer<L: Ledger>(
+        &mut self,
+        session: u32,
+        request: Request,
+        steps: &mut Steps<L>,
+    ) -> Result<Body, Refusal>
         requires { session ≤ 65 }
         ensures { (past : List Answered) → Holds self.old past → length past < 2 ^ 53
             → Does past session (ask.request_view request) (body_in result) self.new }
@@ -71,15 +84,15 @@ impl Machine {
             Request::Port => self.make_port(),
             Request::Leave => Ok(self.leave(session)),
             Request::Info => self.info(),
-            Request::Update { port, rows } => self.update(port, rows),
-            Request::Replace { port, rows } => self.replace(port, rows),
-            Request::Csv { port, text } => self.csv(port, text),
+            Request::Update { port, rows } => self.update(port, rows, steps),
+            Request::Replace { port, rows } => self.replace(port, rows, steps),
+            Request::Csv { port, text } => self.csv(port, text, steps),
             Request::Remove { port, keys } => self.remove(port, keys),
             Request::Clear { port } => self.clear(port),
             Request::ClosePort { port } => self.close_port(port),
             Request::Apply { port } => self.apply(port),
-            Request::Open { plan, bound } => self.open(session, plan, bound),
-            Request::Rows { view, from, to } => self.rows(session, view, from, to),
+            Request::Open { plan, bound } => self.open(session, plan, bound, steps),
+            Request::Rows { view, from, to } => self.rows(session, view, from, to, steps),
             Request::Close { view } => self.close(session, view),
             Request::Unread(why) => Err(refused::unread(why)),
         }
@@ -99,12 +112,26 @@ impl Machine {
             return Err(refused::table_set());
         }
         match Schema::make(self.alloc, columns, index, limit) {
-            Ok(schema) => {
-                self.table = Some(Table::make(self.alloc, schema));
-                Ok(Body::Table)
-            }
+            Ok(schema) => self.keep_table(schema),
             Err(SchemaRefused::Bad { cause, at }) => Err(refused::bad_schema(cause, at)),
             Err(SchemaRefused::Memory) => Err(refused::memory()),
+        }
+    }
+
+    /// Makes the table of a schema, where there is none yet.
+    fn keep_table(&mut self, schema: Schema) -> Result<Body, Refusal>
+        requires { self.old.table ≡ None }
+        ensures { (past : List Answered) → Holds self.old past
+            → (session : ℕ) (columns : List ColumnWords) (index : Option (List ℕ)) (limit : Option ℤ)
+            → schema_of columns index limit ≡ Ok schema
+            → Does past session (ask.table columns index limit) (body_in result) self.new }
+    {
+        match Table::make(self.alloc, schema) {
+            Ok(table) => {
+                self.table = Some(table);
+                Ok(Body::Table)
+            }
+            Err((_memory, _schema)) => Err(refused::memory()),
         }
     }
 

@@ -12,15 +12,18 @@ ghost use Rattle.hub_spec.specs.Ports.{schema};
 ghost use Rattle.hub_spec.specs.Reading.{batch_asked};
 ghost use Rattle.hub_core.specs.Holding.{Holds, Does, DoesBy, put_answer, rows_answer};
 ghost use Rattle.hub_core.specs.Refusing.{body_in};
+ghost use Rattle.hub_core.specs.Tables.{schema_in};
+ghost use Rattle.hub_core.specs.Taken.{IsTaken};
 
 use crate::machine::Machine;
 use crate::refused;
-use cell_core::{Keeping, Raw, Text};
+use cell_core::{Keeping, Raw, Steps, Text};
 use csv_rows::csv_patches;
 use frame_types::{Body, Refusal};
 use hub_ports::PutRefused;
 use json_rows::{batch_keys, batch_rows};
 use row_batch::{Batch, MAX_BATCH};
+use std::sync::ledger::Ledger;
 
 impl Machine {
     /// Makes a port.
@@ -59,40 +62,55 @@ impl Machine {
     }
 
     /// Queues an update.
-    pub fn update(&mut self, port: u64, rows: Raw) -> Result<Body, Refusal>
+    pub fn update<L: Ledger>(
+        &mut self,
+        port: u64,
+        rows: Raw,
+        steps: &mut Steps<L>,
+    ) -> Result<Body, Refusal>
         ensures { (past : List Answered) → Holds self.old past → length past < 2 ^ 53
             → (session : ℕ) → Does past session (ask.update port (raw_view rows)) (body_in result) self.new }
     {
         let table = self.table()?;
         let place = self.open_port(port)?;
         match batch_rows(self.alloc, table.schema(), &rows) {
-            Ok(patches) => self.queue_rows(place, Batch::Update(patches)),
+            Ok(patches) => self.queue_rows(place, Batch::Update(patches), steps),
             Err(why) => Err(refused::rows(why)),
         }
     }
 
     /// Queues an update that comes after the table was cleared.
-    pub fn replace(&mut self, port: u64, rows: Raw) -> Result<Body, Refusal>
+    pub fn replace<L: Ledger>(
+        &mut self,
+        port: u64,
+        rows: Raw,
+        steps: &mut Steps<L>,
+    ) -> Result<Body, Refusal>
         ensures { (past : List Answered) → Holds self.old past → length past < 2 ^ 53
             → (session : ℕ) → Does past session (ask.replace port (raw_view rows)) (body_in result) self.new }
     {
         let table = self.table()?;
         let place = self.open_port(port)?;
         match batch_rows(self.alloc, table.schema(), &rows) {
-            Ok(patches) => self.queue_rows(place, Batch::Replace(patches)),
+            Ok(patches) => self.queue_rows(place, Batch::Replace(patches), steps),
             Err(why) => Err(refused::rows(why)),
         }
     }
 
     /// Queues an update whose rows are CSV text.
-    pub fn csv(&mut self, port: u64, text: Text) -> Result<Body, Refusal>
+    pub fn csv<L: Ledger>(
+        &mut self,
+        port: u64,
+        text: Text,
+        steps: &mut Steps<L>,
+    ) -> Result<Body, Refusal>
         ensures { (past : List Answered) → Holds self.old past → length past < 2 ^ 53
             → (session : ℕ) → Does past session (ask.csv port text) (body_in result) self.new }
     {
         let table = self.table()?;
         let place = self.open_port(port)?;
         match csv_patches(self.alloc, table.schema(), &text) {
-            Ok(patches) => self.queue_rows(place, Batch::Update(patches)),
+            Ok(patches) => self.queue_rows(place, Batch::Update(patches), steps),
             Err(why) => Err(refused::rows(why)),
         }
     }
@@ -124,9 +142,15 @@ impl Machine {
     }
 
     /// Queues a batch that puts rows on the open port at a place, where the table has room for them.
-    fn queue_rows(&mut self, place: usize, batch: Batch) -> Result<Body, Refusal>
+    fn queue_rows<L: Ledger>(
+        &mut self,
+        place: usize,
+        batch: Batch,
+        steps: &mut Steps<L>,
+    ) -> Result<Body, Refusal>
         requires within { place < length self.old.ports.live }
         requires small { rows_in batch ≤ MAX_BATCH }
+        requires taken { IsTaken (schema_in self.old.table) batch }
         ensures { (past : List Answered) → Holds self.old past → length past < 2 ^ 53
             → (port_at self.old.ports.live place).queue.closed ≡ false
             → (session : ℕ) (request : Ask) → batch_asked (schema past) request ≡ Some batch
@@ -136,7 +160,7 @@ impl Machine {
         if self.ports.queue(place).is_full() {
             return Err(refused::port_full());
         }
-        match self.too_many_rows(&batch) {
+        match self.too_many_rows(&batch, steps) {
             Ok(None) => self.queue_batch(place, batch),
             Ok(Some(would)) => Err(refused::table_full(would)),
             Err(_) => Err(refused::memory()),
@@ -147,6 +171,7 @@ impl Machine {
     fn queue_batch(&mut self, place: usize, batch: Batch) -> Result<Body, Refusal>
         requires within { place < length self.old.ports.live }
         requires small { rows_in batch ≤ MAX_BATCH }
+        requires taken { IsTaken (schema_in self.old.table) batch }
         ensures { (past : List Answered) → Holds self.old past → length past < 2 ^ 53
             → (port_at self.old.ports.live place).queue.closed ≡ false
             → (session : ℕ) (request : Ask) → batch_asked (schema past) request ≡ Some batch
@@ -191,10 +216,11 @@ impl Machine {
         let Some(batch) = queue.front() else {
             return Err(refused::empty());
         };
-        if table.put(self.alloc, batch).is_err() {
+        let Ok(prepared) = table.prepare(self.alloc, batch) else {
             return Err(refused::memory());
-        }
+        };
         let seq = queue.taken().saturating_add(1);
+        drop(table.apply(prepared));
         drop(self.ports.take_front(place));
         self.version = self.version.saturating_add(1);
         Ok(Body::Applied { port, seq })

@@ -1,5 +1,6 @@
 ghost use Rattle.std.specs.Prelude.{◌≡◌, ℕ, List, [], ◌∷◌, ◌++◌, ◌+◌, ◌<◌, map, length, IfOk, IfSome, OnOk};
-ghost use Rattle.std.specs.List.{flat_map};
+ghost use Rattle.std.specs.List.{flat_map, list_any};
+ghost use Rattle.cell_core.specs.Cells.{same_cell};
 ghost use Rattle.cell_core.specs.declared.cell.Cell.{Cell};
 ghost use Rattle.row_batch.specs.Batches.{key_in};
 ghost use Rattle.row_batch.specs.Tables.{keys_of_rows};
@@ -8,13 +9,14 @@ ghost use Rattle.hub_spec.specs.Room.{different, keys_put};
 ghost use Rattle.hub_core.specs.Rooms.{IsCounted, over, room_taken};
 
 use crate::machine::Machine;
-use crate::table::Table;
-use cell_core::{Cell, Keeping, MAX_ROWS, Memory};
+use cell_core::{Cell, Keeping, MAX_ROWS, Memory, Steps};
 use hub_ports::Port;
 use port_queue::PortQueue;
 use row_batch::{Batch, Patch, PatchCell};
 use std::alloc::Global;
 use std::collections::BTreeMap;
+use std::sync::ledger::Ledger;
+use table_core::Table;
 
 /// Keys that the table doesn't hold.
 type NewKeys = BTreeMap<Cell, ()>;
@@ -22,13 +24,17 @@ type NewKeys = BTreeMap<Cell, ()>;
 impl Machine {
     /// How many rows the table may come to with the waiting batches and one more, where these are more
     /// than 65,536.
-    pub fn too_many_rows(&self, batch: &Batch) -> Result<Option<u64>, Memory>
+    pub fn too_many_rows<L: Ledger>(
+        &self,
+        batch: &Batch,
+        steps: &mut Steps<L>,
+    ) -> Result<Option<u64>, Memory>
         ensures { IfOk result (λ would. would ≡ over (room_taken self.now.table self.now.ports batch.now)) }
     {
         let Some(table) = &self.table else {
             return Ok(None);
         };
-        let rows = table.len() as u64;
+        let rows = table.size() as u64;
         let Some(all) = sum_of(rows, self.ports.rows_waiting(), batch.rows() as u64) else {
             return Err(Memory);
         };
@@ -36,28 +42,29 @@ impl Machine {
             return Ok(None);
         }
         match table.schema().keeping() {
-            Keeping::Indexed(column) => self.too_many_keys(table, column, batch),
+            Keeping::Indexed(column) => self.too_many_keys(table, column, batch, steps),
             Keeping::Limited(_) => Ok(None),
             Keeping::Free => Ok(Some(all)),
         }
     }
 
     /// The same of a table with an index: rows of one key are one row.
-    fn too_many_keys(
+    fn too_many_keys<L: Ledger>(
         &self,
         table: &Table,
         column: usize,
         batch: &Batch,
+        steps: &mut Steps<L>,
     ) -> Result<Option<u64>, Memory>
         ensures { IfOk result (λ would. would
             ≡ over (different (keys_of_rows table.now.store.pairs ++ flat_map (keys_put column) (waiting_on self.now.ports.live ++ batch.now ∷ [])))) }
     {
-        let rows = table.len() as u64;
+        let rows = table.size() as u64;
         let mut found = NewKeys::new(self.alloc);
         for port in self.ports.as_slice() {
-            note_queue(table, column, &port.queue, self.alloc, &mut found)?;
+            note_queue(table, column, &port.queue, self.alloc, &mut found, steps)?;
         }
-        note_batch(table, column, batch, self.alloc, &mut found)?;
+        note_batch(table, column, batch, self.alloc, &mut found, steps)?;
         match rows.checked_add(found.len() as u64) {
             Some(would) => Ok(if_over(would)),
             None => Err(Memory),
@@ -83,82 +90,99 @@ fn if_over(would: u64) -> Option<u64>
 }
 
 /// Notes the keys under which the batches of a queue put rows.
-fn note_queue(
+fn note_queue<L: Ledger>(
     table: &Table,
     column: usize,
     queue: &PortQueue,
     alloc: Global,
     found: &mut NewKeys,
+    steps: &mut Steps<L>,
 ) -> Result<(), Memory>
     ensures { OnOk result ((keys : List Cell) → IsCounted (keys_of_rows table.now.store.pairs) found.old keys
         → IsCounted (keys_of_rows table.now.store.pairs) found.new (keys ++ flat_map (keys_put column) queue.now.waiting)) }
 {
     for i in 0..queue.waiting() {
         if let Some(batch) = queue.at(i) {
-            note_batch(table, column, batch, alloc, found)?;
+            note_batch(table, column, batch, alloc, found, steps)?;
         }
     }
     Ok(())
 }
 
 /// Notes the keys under which a batch puts rows.
-fn note_batch(
+fn note_batch<L: Ledger>(
     table: &Table,
     column: usize,
     batch: &Batch,
     alloc: Global,
     found: &mut NewKeys,
+    steps: &mut Steps<L>,
 ) -> Result<(), Memory>
     ensures { OnOk result ((keys : List Cell) → IsCounted (keys_of_rows table.now.store.pairs) found.old keys
         → IsCounted (keys_of_rows table.now.store.pairs) found.new (keys ++ keys_put column batch.now)) }
 {
     match batch {
         Batch::Update(patches) | Batch::Replace(patches) => {
-            note_patches(table, column, patches.as_slice(), alloc, found)
+            note_patches(table, column, patches.as_slice(), alloc, found, steps)
         }
         Batch::Remove(_) | Batch::Clear => Ok(()),
     }
 }
 
-fn note_patches(
+fn note_patches<L: Ledger>(
     table: &Table,
     column: usize,
     patches: &[Patch],
     alloc: Global,
     found: &mut NewKeys,
+    steps: &mut Steps<L>,
 ) -> Result<(), Memory>
     ensures { OnOk result ((keys : List Cell) → IsCounted (keys_of_rows table.now.store.pairs) found.old keys
         → IsCounted (keys_of_rows table.now.store.pairs) found.new (keys ++ map (key_in column) patches.now)) }
 {
     for patch in patches {
-        note_patch(table, column, patch.as_slice(), alloc, found)?;
+        note_patch(table, column, patch.as_slice(), alloc, found, steps)?;
     }
     Ok(())
 }
 
-fn note_patch(
+fn note_patch<L: Ledger>(
     table: &Table,
     column: usize,
     patch: &[PatchCell],
     alloc: Global,
     found: &mut NewKeys,
+    steps: &mut Steps<L>,
 ) -> Result<(), Memory>
     ensures { OnOk result ((keys : List Cell) → IsCounted (keys_of_rows table.now.store.pairs) found.old keys
         → IsCounted (keys_of_rows table.now.store.pairs) found.new (keys ++ key_in column patch.now ∷ [])) }
 {
     match patch.get(column) {
-        Some(PatchCell::Set(key)) => note_key(table, key, alloc, found),
-        _ => note_key(table, &Cell::Null, alloc, found),
+        Some(PatchCell::Set(key)) => note_key(table, key, alloc, found, steps),
+        _ => note_key(table, &Cell::Null, alloc, found, steps),
     }
 }
 
 /// Notes a key that neither the table holds nor was found before.
-fn note_key(table: &Table, key: &Cell, alloc: Global, found: &mut NewKeys) -> Result<(), Memory>
+fn note_key<L: Ledger>(
+    table: &Table,
+    key: &Cell,
+    alloc: Global,
+    found: &mut NewKeys,
+    steps: &mut Steps<L>,
+) -> Result<(), Memory>
     ensures { OnOk result ((keys : List Cell) → IsCounted (keys_of_rows table.now.store.pairs) found.old keys
         → IsCounted (keys_of_rows table.now.store.pairs) found.new (keys ++ key.now ∷ [])) }
 {
-    if !table.has_key(key) && !found.contains_key(key) {
+    if !has_row(table, key, steps) && !found.contains_key(key) {
         drop(found.insert(key.copy(alloc)?, ())?);
     }
     Ok(())
+}
+
+/// Whether the table holds a row of that key.
+fn has_row<L: Ledger>(table: &Table, key: &Cell, steps: &mut Steps<L>) -> bool
+    ensures { result ≡ list_any (λ p. same_cell key.now p.key) table.now.store.pairs }
+{
+    table.row(key, steps).is_some()
 }

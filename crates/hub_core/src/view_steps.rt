@@ -11,13 +11,20 @@ use crate::machine::Machine;
 use crate::refused;
 use crate::told::{column_words, index_name, limit_of};
 use crate::views::{MAX_VIEWS, View, count_views, drop_view, drop_views, find_view};
-use cell_core::{Raw, RawMap};
+use cell_core::{Raw, RawMap, Steps};
 use frame_types::{Body, Refusal};
 use plain_view::{show, show_window};
+use std::sync::ledger::Ledger;
 
 impl Machine {
     /// Opens a view.
-    pub fn open(&mut self, session: u32, plan: Raw, bound: u64) -> Result<Body, Refusal>
+    pub fn open<L: Ledger>(
+        &mut self,
+        session: u32,
+        plan: Raw,
+        bound: u64,
+        steps: &mut Steps<L>,
+    ) -> Result<Body, Refusal>
         requires { session ≤ 65 }
         ensures { (past : List Answered) → Holds self.old past → length past < 2 ^ 53
             → Does past session (ask.open_view (raw_view plan) bound) (body_in result) self.new }
@@ -29,7 +36,7 @@ impl Machine {
         if self.views.len() >= MAX_VIEWS {
             return Err(refused::too_many_views());
         }
-        let Ok(shown) = show(self.alloc, table.schema(), table.pairs()) else {
+        let Ok(shown) = show(self.alloc, table, steps) else {
             return Err(refused::memory());
         };
         let edit = 0;
@@ -53,7 +60,14 @@ impl Machine {
     }
 
     /// Shows the rows of a view at positions `from` up to and without `to`.
-    pub fn rows(&mut self, session: u32, view: u64, from: u64, to: u64) -> Result<Body, Refusal>
+    pub fn rows<L: Ledger>(
+        &mut self,
+        session: u32,
+        view: u64,
+        from: u64,
+        to: u64,
+        steps: &mut Steps<L>,
+    ) -> Result<Body, Refusal>
         ensures { (past : List Answered) → Holds self.old past → length past < 2 ^ 53
             → Does past session (ask.rows view from to) (body_in result) self.new }
     {
@@ -68,8 +82,7 @@ impl Machine {
             return Err(refused::bad_window(from, to));
         }
         let edit = held.edit;
-        let (schema, pairs) = (table.schema(), table.pairs());
-        let Ok((shown, size)) = show_window(self.alloc, schema, pairs, from, to) else {
+        let Ok((shown, size)) = show_window(self.alloc, table, from, to, steps) else {
             return Err(refused::memory());
         };
         Ok(Body::Rows {
@@ -121,7 +134,7 @@ impl Machine {
             columns,
             index,
             limit: limit_of(schema),
-            size: table.pairs().len() as u64,
+            size: table.size() as u64,
             waiting: self.ports.batches_waiting(),
         })
     }

@@ -17,7 +17,7 @@ use view_types::{Shown, ShownCells, ShownRow, ShownRows, ViewKey};
 type ByKey = BTreeMap<Cell, ShownCells>;
 
 /// What a view of all rows and all columns shows: the columns' texts and types, and the rows
-/// ascending by key. Each row is visited once.
+/// ascending by key. `steps` counts the visits of rows.
 ///
 /// Want of memory is the only refusal.
 pub fn show<L: Ledger>(alloc: Global, table: &Table, steps: &mut Steps<L>) -> Result<Shown, Memory>
@@ -30,7 +30,7 @@ pub fn show<L: Ledger>(alloc: Global, table: &Table, steps: &mut Steps<L>) -> Re
 
 /// The rows at positions from `first` up to and without `end` of what `show` gives, under the same
 /// header, and the number of all rows. Positions past the last row have none, and neither have those
-/// of a window whose `end` is not past its `first`. Each row is visited once.
+/// of a window whose `end` is not past its `first`. `steps` counts the visits of rows.
 ///
 /// Want of memory is the only refusal.
 pub fn show_window<L: Ledger>(

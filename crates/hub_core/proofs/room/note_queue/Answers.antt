@@ -11,7 +11,7 @@ use Rattle.hub_core.proofs.room.note_queue.Goals as goal
 use Rattle.hub_core.proofs.room.note_queue.Goals.{in-Some+in_ok-note_batch, in_default}
 
 pub loop-i-preserved : goal.loop-i-preserved
-loop-i-preserved c = λ keys counted.
+loop-i-preserved g c = λ keys counted.
     let rows = keys_of_rows c.args.table.now.store.pairs in
     let waits = c.args.queue.now.waiting in
     let i = c.loop-i.i in

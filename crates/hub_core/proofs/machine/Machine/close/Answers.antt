@@ -1,4 +1,4 @@
-use Rattle.std.proofs.Common.{sym, ap, ◌∙◌, find}
+use Rattle.std.proofs.Common.{refl, sym, ap, ◌∙◌, find}
 use Rattle.std.specs.Option.{option_copied}
 use Rattle.hub_core.specs.KeptViews.{is_kept}
 use Rattle.hub_core.proofs.ViewDeeds.{close_refused, close_does}
@@ -14,4 +14,5 @@ pub returns : goal.returns
 returns c = λ past h few.
     close_does c.args.self.now past c.args.session c.args.view c.in_ok-_table._table.now c.in-Some._held.now c.drop_view.new.views h c.in_ok-_table.ensures.ok
     (sym (ap (find (is_kept c.args.session c.args.view)) c.as_slice.ensures.value) ∙ sym c.find_view.ensures ∙ ap option_copied c.in-Some.is)
-    c.drop_view.ensures
+    c.drop_view.ensures _
+    (record { table = refl; number = refl; ports = refl; views = refl; opened = refl })

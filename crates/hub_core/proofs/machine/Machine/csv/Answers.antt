@@ -8,7 +8,7 @@ use Rattle.hub_core.proofs.PortDeeds.{read_asks, rows_plain, may_put_rows, at_nu
 use Rattle.hub_core.proofs.machine.Machine.csv.Goals as goal
 
 pub returns-in-Ok : goal.returns-in-Ok
-returns-in-Ok c = λ past h few session.
+returns-in-Ok g c = λ past h few session.
     let m = c.args.self.now in
     let t = c.in_ok-table.table.now in
     let port = c.args.port in

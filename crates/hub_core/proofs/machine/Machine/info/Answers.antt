@@ -7,10 +7,10 @@ pub returns : goal.returns
 returns c = λ past h few session.
     let t = c.in_ok-table.table.now in
     let schema = c.schema-schema.ensures in
-    info_does c.args.self.now past session t c.in-Ok.columns c.in-Ok-index_name.index c.limit_of.result (length c.pairs.result.now) c.batches_waiting.result
+    info_does c.args.self.now past session t c.in-Ok.columns c.in-Ok-index_name.index c.limit_of.result c.size.result c.batches_waiting.result
     h c.in_ok-table.ensures.ok
     (c.in-Ok.ensures ∙ ap (map column_words) (c.columns.ensures ∙ ap (λ s. s.columns) schema))
     (c.in-Ok-index_name.ensures ∙ ap (λ s. index_name s s.keeping) schema)
     (c.limit_of.ensures ∙ ap (λ s. limit_in s.keeping) schema)
-    (ap length c.pairs.ensures.pairs)
+    c.size.ensures.size
     c.batches_waiting.ensures.batches

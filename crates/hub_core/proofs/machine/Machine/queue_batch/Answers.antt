@@ -1,13 +1,18 @@
+use Rattle.std.proofs.Common.{refl, sym, ap, ◌∙◌}
+use Rattle.frame_types.specs.declared.reply.Body.TheVariants as body
+use Rattle.hub_core.proofs.Parts.{answer_does, same_does}
 use Rattle.hub_core.proofs.PortDeeds.{put_done, put_full, full_outcome}
 use Rattle.hub_core.proofs.machine.Machine.queue_batch.Goals as goal
 
 pub returns-in-Ok : goal.returns-in-Ok
 returns-in-Ok c = λ past h few shut session request asked may.
-    rw (c.number-port.ensures, c.in-Ok.ensures.ok)
-    (put_done c.args.self.now past session request c.args.place c.in-Ok.seq c.args.batch h c.requires.within shut asked c.in-Ok.ensures.outcome)
+    answer_does past session request _ _ _ _ (ap (λ p. body.Queued p c.in-Ok.seq) c.number-port.ensures)
+    (put_done c.args.self.now past session request c.args.place c.in-Ok.seq c.args.batch h c.requires.within shut asked c.in-Ok.ensures.outcome _
+    (record { table = refl; number = refl; ports = c.in-Ok.ensures.ok; views = refl; opened = refl }))
 
 pub returns-in-Err-Full : goal.returns-in-Err-Full
 returns-in-Err-Full c = λ past h few shut session request asked may.
-    rw (c.port_full.ensures, c.in-Err-Full.ensures.err)
+    same_does c.args.self.now _ past session request _ _ _
+    (record { table = refl; number = refl; ports = c.in-Err-Full.ensures.err; views = refl; opened = refl }) (ap body.Refused c.port_full.ensures)
     (put_full c.args.self.now past session request c.args.place c.args.batch h c.requires.within shut
     (full_outcome _ c.args.batch c.in-Err-Full.field-0 c.in-Err-Full.field-0-is c.in-Err-Full.ensures.outcome))

@@ -4,13 +4,13 @@ use Rattle.hub_core.proofs.PortDeeds.{rows_full, rows_over, rows_room, table_of,
 use Rattle.hub_core.proofs.machine.Machine.queue_rows.Goals as goal
 
 pub returns-then-is_full : goal.returns-then-is_full
-returns-then-is_full c = λ past h few shut session request asked may.
+returns-then-is_full g c = λ past h few shut session request asked may.
     rw c.port_full.ensures
     (rows_full c.args.self.now past session request c.args.place c.args.batch h c.requires.within
     (ap (λ q. leb 64 (length q.waiting)) (sym c.queue.ensures) ∙ sym c.is_full.ensures ∙ c.if-is_full.true))
 
 pub returns-in-Ok-None : goal.returns-in-Ok-None
-returns-in-Ok-None c = λ past h few shut session request asked may.
+returns-in-Ok-None g c = λ past h few shut session request asked may.
     let m = c.args.self.now in
     let t = table_of m past request c.args.batch h asked in
     let free = ap (λ q. leb 64 (length q.waiting)) (sym c.queue.ensures) ∙ sym c.is_full.ensures ∙ c.if-is_full.false in
@@ -19,7 +19,7 @@ returns-in-Ok-None c = λ past h few shut session request asked may.
     (c.queue_batch.ensures past h few shut session request asked (ap (may_choose past request want) same ∙ may))
 
 pub returns-in-Ok-Some : goal.returns-in-Ok-Some
-returns-in-Ok-Some c = λ past h few shut session request asked may.
+returns-in-Ok-Some g c = λ past h few shut session request asked may.
     let m = c.args.self.now in
     let t = table_of m past request c.args.batch h asked in
     let free = ap (λ q. leb 64 (length q.waiting)) (sym c.queue.ensures) ∙ sym c.is_full.ensures ∙ c.if-is_full.false in

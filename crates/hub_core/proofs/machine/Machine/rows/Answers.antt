@@ -1,37 +1,34 @@
 use Rattle.std.proofs.Common.{sym, ap, ◌∙◌, arith, find, length}
 use Rattle.std.specs.Option.{option_copied}
 use Rattle.std.proofs.lemmas.Bool.{lt-ltb, le-ltb}
-use Rattle.plain_view.specs.Flat.{flat_view, window}
 use Rattle.hub_core.specs.KeptViews.{is_kept}
 use Rattle.hub_core.proofs.ViewDeeds.{rows_does, rows_lost, rows_backwards, rows_refused}
 use Rattle.hub_core.proofs.machine.Machine.rows.Goals as goal
 
 pub returns-in_default : goal.returns-in_default
-returns-in_default c = λ past h few.
+returns-in_default g c = λ past h few.
     rw c.no_view.ensures (
     rows_refused c.args.self.now past c.args.session c.args.view c.args.from c.args.to c.in_ok-table.table.now h c.in_ok-table.ensures.ok
     (sym (ap (find (is_kept c.args.session c.args.view)) c.as_slice.ensures.value) ∙ sym c.find_view.ensures ∙ ap option_copied c.in_default.is))
 
 pub returns-in-Some-lost : goal.returns-in-Some-lost
-returns-in-Some-lost c = λ past h few.
+returns-in-Some-lost g c = λ past h few.
     rw c.view_lost.ensures (
     rows_lost c.args.self.now past c.args.session c.args.view c.args.from c.args.to c.in-Some-lost.version c.in_ok-table.table.now c.in-Some.held.now h c.in_ok-table.ensures.ok
     (sym (ap (find (is_kept c.args.session c.args.view)) c.as_slice.ensures.value) ∙ sym c.find_view.ensures ∙ ap option_copied c.in-Some.is)
     c.in-Some-lost.is)
 
 pub returns-then-to-from : goal.returns-then-to-from
-returns-then-to-from c = λ past h few.
+returns-then-to-from g c = λ past h few.
     rw c.bad_window.ensures (
     rows_backwards c.args.self.now past c.args.session c.args.view c.args.from c.args.to c.in_ok-table.table.now c.in-Some.held.now h c.in_ok-table.ensures.ok
     (sym (ap (find (is_kept c.args.session c.args.view)) c.as_slice.ensures.value) ∙ sym c.find_view.ensures ∙ ap option_copied c.in-Some.is)
     c.in_default-lost.is (lt-ltb c.args.to c.args.from (omega arith)))
 
 pub returns : goal.returns
-returns c = λ past h few.
-    let shows = ap (λ s. flat_view s c.pairs-pairs.result.now) c.schema-schema.ensures ∙ ap (flat_view c.in_ok-table.table.now.schema) c.pairs-pairs.ensures.pairs in
+returns g c = λ past h few.
     rows_does c.args.self.now past c.args.session c.args.view c.args.from c.args.to c.in_ok-table.table.now c.in-Ok.shown c.in-Ok.size c.in-Some.held.now
     h c.in_ok-table.ensures.ok
     (sym (ap (find (is_kept c.args.session c.args.view)) c.as_slice.ensures.value) ∙ sym c.find_view.ensures ∙ ap option_copied c.in-Some.is)
     c.in_default-lost.is (le-ltb c.args.to c.args.from (omega arith))
-    (c.in-Ok.ensures.shown ∙ ap (window c.args.from c.args.to) shows)
-    (c.in-Ok.ensures.size ∙ ap (λ s. length s.rows) shows)
+    c.in-Ok.ensures.shown c.in-Ok.ensures.size

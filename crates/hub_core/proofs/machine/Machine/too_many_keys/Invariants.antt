@@ -7,4 +7,4 @@ use Rattle.hub_core.specs.Rooms.{IsCounted}
 use Rattle.hub_core.proofs.machine.Machine.too_many_keys.Given as goal
 
 abbrev pub invariant-loop-port : goal.invariant-loop-port
-invariant-loop-port l = IsCounted (keys_of_rows l.table.store.pairs) l.found (flat_map (keys_put l.column) (waiting_on (take l.port-index l.self.ports.live)))
+invariant-loop-port g l = IsCounted (keys_of_rows l.table.store.pairs) l.found (flat_map (keys_put l.column) (waiting_on (take l.port-index l.self.ports.live)))
