@@ -1,14 +1,12 @@
-use Rattle.std.proofs.Common.{◌≡◌, ◌+◌, ◌-◌, ◌^◌, min, length, Some, refl, sym, ap, ◌∙◌, subst, arith}
+use Rattle.std.proofs.Common.{◌+◌, ◌-◌, ◌^◌, min, length, Some, refl, sym, ap, ◌∙◌, arith}
 use Rattle.std.specs.Option.{option_copied}
 use Rattle.std.specs.Prelude.{slice_get}
 use Rattle.frame_types.specs.declared.reply.Body.TheVariants as body
-use Rattle.hub_ports.specs.Ports.{PortsData, taken_off}
 use Rattle.hub_core.specs.Tables.{schema_in}
-use Rattle.hub_core.specs.Taken.{AreTaken}
 use Rattle.hub_core.proofs.Parts.{same_does}
 use Rattle.hub_core.proofs.PortDeeds.{apply_missing, apply_empty, apply_done}
 use Rattle.hub_core.proofs.RowOrders.{put_still}
-use Rattle.hub_core.proofs.Takings.{off_taken}
+use Rattle.hub_core.proofs.Takings.{off_taken_by}
 use Rattle.hub_core.proofs.machine.Machine.apply.Goals as goal
 
 pub returns-in_default-find : goal.returns-in_default-find
@@ -26,21 +24,17 @@ returns-in_default-front c = λ past h few session.
 pub invariant_of-self-2 : goal.invariant_of-self-2
 invariant_of-self-2 c =
     let m = c.args.self.now in
-    let place = c.in-Some-find.place in
-    let same : schema_in m.table ≡ Some c.apply.new.self.schema = ap schema_in c.in-Some.is ∙ sym (ap Some (c.apply.ensures.schema ∙ c.in-Ok.ensures.still.schema)) in
-    let off : AreTaken (schema_in m.table) (taken_off m.ports.live place) = off_taken (schema_in m.table) m.ports.live place c.in-Some-find.ensures.within m.taken in
     record {
-      taken = subst (λ (k : PortsData). AreTaken (Some c.apply.new.self.schema) k.live) (sym c.take_front.ensures.ports)
-          (subst (λ s. AreTaken s (taken_off m.ports.live place)) same off);
+      taken = off_taken_by (schema_in m.table) _ m.ports _ c.in-Some-find.place c.in-Some-find.ensures.within m.taken (ap schema_in c.in-Some.is ∙ ap Some (cc (c.in-Ok.ensures.still.schema))) c.take_front.ensures.ports;
     }
 
 pub returns : goal.returns
 returns c = λ past h few session.
-    apply_done c.args.self.now past session c.args.port c.in-Some-find.place c.in-Some.table c.apply.new.self c.saturating_add-self.result c.saturating_add-seq.result c.in-Some-front.batch.now
+    apply_done c.args.self.now past session c.args.port c.in-Some-find.place c.in-Some.table _ c.saturating_add-self.result c.saturating_add-seq.result c.in-Some-front.batch.now
     h few c.in-Some.is c.in-Some-find.ensures.within c.in-Some-find.ensures.found
     (ap (λ q. slice_get q.waiting 0) (sym c.queue-queue.ensures) ∙ sym c.front.ensures ∙ ap option_copied c.in-Some-front.is)
-    (c.apply.ensures.schema ∙ c.in-Ok.ensures.still.schema)
-    (put_still c.in-Some.table c.prepare.new.self c.in-Some-front.batch.now c.in-Ok.prepared.batch c.apply.new.self.store c.in-Ok.ensures.still c.in-Ok.ensures.batch c.apply.ensures.rows)
+    (cc (c.in-Ok.ensures.still.schema))
+    (put_still c.in-Some.table c.prepare.new.self c.in-Some-front.batch.now c.in-Ok.prepared.batch _ c.in-Ok.ensures.still c.in-Ok.ensures.batch (assumption))
     c.saturating_add-self.ensures
     (c.saturating_add-seq.ensures
     ∙ ap (λ k. min (k + 1) (2 ^ 64 - 1)) (c.taken.ensures ∙ ap (λ q. q.accepted - length q.waiting) c.queue-queue.ensures))

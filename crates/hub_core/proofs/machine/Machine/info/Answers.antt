@@ -1,4 +1,4 @@
-use Rattle.std.proofs.Common.{length, map, ap, ◌∙◌}
+use Rattle.std.proofs.Common.{map, ap, ◌∙◌}
 use Rattle.hub_spec.specs.Answers.{column_words, index_name, limit_in}
 use Rattle.hub_core.proofs.PortDeeds.{info_does}
 use Rattle.hub_core.proofs.machine.Machine.info.Goals as goal

@@ -1,4 +1,4 @@
-use Rattle.std.proofs.Common.{refl, sym, ap, ◌∙◌}
+use Rattle.std.proofs.Common.{refl, ap}
 use Rattle.frame_types.specs.declared.reply.Body.TheVariants as body
 use Rattle.hub_core.proofs.Parts.{answer_does, same_does}
 use Rattle.hub_core.proofs.PortDeeds.{put_done, put_full, full_outcome}

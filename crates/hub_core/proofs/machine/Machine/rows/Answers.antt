@@ -1,4 +1,4 @@
-use Rattle.std.proofs.Common.{sym, ap, ◌∙◌, arith, find, length}
+use Rattle.std.proofs.Common.{sym, ap, ◌∙◌, arith, find}
 use Rattle.std.specs.Option.{option_copied}
 use Rattle.std.proofs.lemmas.Bool.{lt-ltb, le-ltb}
 use Rattle.hub_core.specs.KeptViews.{is_kept}
