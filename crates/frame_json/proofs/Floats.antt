@@ -20,10 +20,12 @@ use Rattle.view_types.specs.declared.key.ViewKey.{ViewKey}
 use Rattle.view_types.specs.declared.key.ViewKey.TheVariants as key
 use Rattle.view_types.specs.declared.shown.HeaderColumn.{HeaderColumn}
 use Rattle.view_types.specs.declared.shown.ShownRow.{ShownRow}
+use Rattle.delta_core.specs.declared.delta.Delta.{Delta}
+use Rattle.delta_core.specs.declared.delta.Put.{Put}
 use Rattle.frame_types.specs.declared.reply.Body.{Body}
 use Rattle.frame_types.specs.declared.reply.Body.TheVariants as body
 use Rattle.frame_types.specs.declared.reply.Reply.{Reply}
-use Rattle.frame_json.specs.Replies.{integer, pair, triple, tagged, whole_data, day_data, date_data, moment_data, value_data, part_data, column_data, header_data, with_cells, cells_data, keyed_data, row_data, rows_data, lost_view, lost_data, at_items, words_data, info_reply, body_data, reply_data}
+use Rattle.frame_json.specs.Replies.{integer, pair, triple, tagged, whole_data, day_data, date_data, moment_data, value_data, part_data, key_data, keys_data, column_data, header_data, with_cells, cells_data, keyed_data, row_data, rows_data, put_data, puts_data, lost_view, lost_data, at_items, words_data, delta_reply, info_reply, body_data, reply_data}
 
 abbrev Free : Data → Type 0
 Free d = has_float d ≡ false
@@ -116,7 +118,26 @@ row-free r = keyed-free r.key r.mark (cells_data r.cells) (cells-free no_members
 rows-free : (rs : List ShownRow) → Free (rows_data rs)
 rows-free rs = items-free row_data row-free rs
 
+-- ---- deltas
+
+key-free : (k : ViewKey) → Free (key_data k)
+key-free (key.Row c) = rw (part-free c)
+key-free (key.Group path) = rw (items-free part_data part-free path)
+
+keys-free : (ks : List ViewKey) → Free (keys_data ks)
+keys-free ks = items-free key_data key-free ks
+
+placed-free : (p : Put) → Free (put_data p)
+placed-free p = rw (row-free p.row)
+
+puts-free : (ps : List Put) → Free (puts_data ps)
+puts-free ps = items-free put_data placed-free ps
+
 -- ---- replies
+
+delta_by : (n version : ℕ) (d : Delta) (header : Option (List HeaderColumn)) (view : ℕ) → Free (delta_reply n version (record d { header = header }) view)
+delta_by n version d None view = rw (puts-free d.puts, keys-free d.removed)
+delta_by n version d (Some cs) view = rw (header-free cs, puts-free d.puts, keys-free d.removed)
 
 lost-free : (vs : List (ℕ × ℕ)) → Free (lost_data vs)
 lost-free vs = items-free lost_view (λ v. refl) vs
@@ -142,6 +163,8 @@ body-free n version (body.Queued port seq) = refl
 body-free n version (body.Applied port seq) = refl
 body-free n version (body.AppliedLosing lost port seq) = rw (lost-free lost)
 body-free n version (body.Opened edit shown view) = rw (header-free shown.header, rows-free shown.rows)
+body-free n version (body.Delta delta view) = delta_by n version delta delta.header view
+body-free n version (body.Resync bound edit shown view) = rw (header-free shown.header, rows-free shown.rows)
 body-free n version (body.Rows edit first shown size view) = rw (header-free shown.header, rows-free shown.rows)
 body-free n version (body.PortClosed port) = refl
 body-free n version (body.Closed view) = refl

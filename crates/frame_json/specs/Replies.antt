@@ -20,7 +20,11 @@ use Rattle.view_types.specs.Types.{shown_type_name}
 use Rattle.view_types.specs.declared.key.ViewKey.{ViewKey}
 use Rattle.view_types.specs.declared.key.ViewKey.TheVariants as key
 use Rattle.view_types.specs.declared.shown.HeaderColumn.{HeaderColumn}
+use Rattle.view_types.specs.declared.shown.Shown.{Shown}
 use Rattle.view_types.specs.declared.shown.ShownRow.{ShownRow}
+use Rattle.delta_core.specs.declared.delta.Delta.{Delta}
+use Rattle.delta_core.specs.declared.delta.Mark.{Mark}
+use Rattle.delta_core.specs.declared.delta.Put.{Put}
 use Rattle.frame_types.specs.Refusals.{cause_text}
 use Rattle.frame_types.specs.declared.reply.Refusal.{Refusal}
 use Rattle.frame_types.specs.declared.reply.Body.{Body}
@@ -88,6 +92,13 @@ row_key c = tagged (codes "r") (part_data c)
 abbrev pub group_key : List Cell → Data
 group_key path = array (item (string (codes "g")) (items_of (map part_data path)))
 
+abbrev pub key_data : ViewKey → Data
+key_data (key.Row c) = row_key c
+key_data (key.Group path) = group_key path
+
+abbrev pub keys_data : List ViewKey → Data
+keys_data ks = array (items_of (map key_data ks))
+
 -- ---- headers and rows
 
 abbrev pub column_data : HeaderColumn → Data
@@ -114,7 +125,23 @@ row_data r = keyed_data r.key r.mark (cells_data r.cells)
 abbrev pub rows_data : List ShownRow → Data
 rows_data rs = array (items_of (map row_data rs))
 
+-- `[position, row]`
+abbrev pub put_data : Put → Data
+put_data p = pair (natural p.position) (row_data p.row)
+
+abbrev pub puts_data : List Put → Data
+puts_data ps = array (items_of (map put_data ps))
+
+-- `[version, edit]`
+abbrev pub mark_data : Mark → Data
+mark_data m = pair (natural m.version) (natural m.edit)
+
 -- ---- replies
+
+-- a member that is left out where there is none
+abbrev pub with_member : List ℕ → Option Data → Members → Members
+with_member name None ms = ms
+with_member name (Some d) ms = member name d ms
 
 -- a view by its session and its number
 abbrev pub lost_view : ℕ × ℕ → Data
@@ -146,16 +173,31 @@ losing_reply n version lost port seq =
     object (member (codes "is") (string (codes "applied_losing")) (member (codes "lost") lost (member (codes "n") (natural n)
     (member (codes "port") (natural port) (member (codes "seq") (natural seq) (member (codes "version") (natural version) no_members))))))
 
-abbrev pub opened_reply : ℕ → ℕ → ℕ → Data → Data → ℕ → Data
-opened_reply n version edit header rows view =
-    object (member (codes "edit") (natural edit) (member (codes "header") header (member (codes "is") (string (codes "opened"))
-    (member (codes "n") (natural n) (member (codes "rows") rows (member (codes "version") (natural version)
+abbrev pub opened_reply : ℕ → ℕ → ℕ → Shown → ℕ → Data
+opened_reply n version edit shown view =
+    object (member (codes "edit") (natural edit) (member (codes "header") (header_data shown.header) (member (codes "is") (string (codes "opened"))
+    (member (codes "n") (natural n) (member (codes "rows") (rows_data shown.rows) (member (codes "version") (natural version)
     (member (codes "view") (natural view) no_members)))))))
 
-abbrev pub rows_reply : ℕ → ℕ → ℕ → ℕ → Data → Data → ℕ → ℕ → Data
-rows_reply n version edit first header rows size view =
-    object (member (codes "edit") (natural edit) (member (codes "from") (natural first) (member (codes "header") header
-    (member (codes "is") (string (codes "rows")) (member (codes "n") (natural n) (member (codes "rows") rows (member (codes "size") (natural size)
+-- of the mark at which the delta ends the edit number is written; the version is the reply's
+abbrev pub delta_reply : ℕ → ℕ → Delta → ℕ → Data
+delta_reply n version d view =
+    object (member (codes "edit") (natural d.to.edit) (member (codes "from") (mark_data d.«from»)
+    (with_member (codes "header") (option_map header_data d.header)
+    (member (codes "is") (string (codes "delta")) (member (codes "n") (natural n) (member (codes "put") (puts_data d.puts)
+    (member (codes "removed") (keys_data d.removed) (member (codes "version") (natural version)
+    (member (codes "view") (natural view) no_members)))))))))
+
+abbrev pub resync_reply : ℕ → ℕ → ℕ → ℕ → Shown → ℕ → Data
+resync_reply n version bound edit shown view =
+    object (member (codes "bound") (natural bound) (member (codes "edit") (natural edit) (member (codes "header") (header_data shown.header)
+    (member (codes "is") (string (codes "resync")) (member (codes "n") (natural n) (member (codes "rows") (rows_data shown.rows)
+    (member (codes "version") (natural version) (member (codes "view") (natural view) no_members))))))))
+
+abbrev pub rows_reply : ℕ → ℕ → ℕ → ℕ → Shown → ℕ → ℕ → Data
+rows_reply n version edit first shown size view =
+    object (member (codes "edit") (natural edit) (member (codes "from") (natural first) (member (codes "header") (header_data shown.header)
+    (member (codes "is") (string (codes "rows")) (member (codes "n") (natural n) (member (codes "rows") (rows_data shown.rows) (member (codes "size") (natural size)
     (member (codes "version") (natural version) (member (codes "view") (natural view) no_members)))))))))
 
 abbrev pub closed_reply : ℕ → ℕ → ℕ → Data
@@ -171,11 +213,6 @@ left_reply n version closed =
 -- `[name, type name]`
 abbrev pub words_data : ColumnWords → Data
 words_data c = pair (string c.name) (string c.kind)
-
--- a member that is left out where there is none
-abbrev pub with_member : List ℕ → Option Data → Members → Members
-with_member name None ms = ms
-with_member name (Some d) ms = member name d ms
 
 abbrev pub info_reply : ℕ → ℕ → List ColumnWords → Option (List ℕ) → Option ℕ → ℕ → ℕ → Data
 info_reply n version columns index limit size waiting =
@@ -198,8 +235,10 @@ body_data n version (body.PortClosed port) = port_reply (codes "port_closed") n 
 body_data n version (body.Queued port seq) = batch_reply (codes "queued") n version port seq
 body_data n version (body.Applied port seq) = batch_reply (codes "applied") n version port seq
 body_data n version (body.AppliedLosing lost port seq) = losing_reply n version (lost_data lost) port seq
-body_data n version (body.Opened edit shown view) = opened_reply n version edit (header_data shown.header) (rows_data shown.rows) view
-body_data n version (body.Rows edit first shown size view) = rows_reply n version edit first (header_data shown.header) (rows_data shown.rows) size view
+body_data n version (body.Opened edit shown view) = opened_reply n version edit shown view
+body_data n version (body.Delta delta view) = delta_reply n version delta view
+body_data n version (body.Resync bound edit shown view) = resync_reply n version bound edit shown view
+body_data n version (body.Rows edit first shown size view) = rows_reply n version edit first shown size view
 body_data n version (body.Closed view) = closed_reply n version view
 body_data n version (body.Left closed) = left_reply n version closed
 body_data n version (body.Info columns index limit size waiting) = info_reply n version columns index limit size waiting

@@ -69,6 +69,11 @@ abbrev pub bound_of : Option Data → Option ℕ
 bound_of None = Some max_bound
 bound_of (Some d) = option_and_then (up_to max_bound) (natural_of d)
 
+-- false where it is left out
+abbrev pub wait_of : Option Data → Option Bool
+wait_of None = Some false
+wait_of (Some d) = flag_of d
+
 -- from 0 to 63, and 0 where it is left out
 abbrev pub below : ℕ → ℕ → Option ℕ
 below end n = if nat_lt n end then Some n else None
@@ -184,6 +189,9 @@ abbrev pub rows_of : Members → Option Ask
 rows_of ms =
     option_and_then (λ v. option_and_then (λ f. option_map (λ t. ask.rows v f t) (natural (codes "to") ms)) (natural (codes "from") ms)) (view_of ms)
 
+abbrev pub take_of : Members → Option Ask
+take_of ms = option_and_then (λ v. option_map (λ w. ask.take v w) (wait_of (get_member (codes "wait") ms))) (view_of ms)
+
 -- a form that isn't built yet, once its members are of their forms
 abbrev pub unbuilt : {X : Type 0} → Option X → Option Ask
 unbuilt members = option_map (λ m. ask.unread cause.Unbuilt) members
@@ -199,9 +207,6 @@ if_path d = if is_path d then Some d else None
 
 abbrev pub path_of : Members → Option Ask
 path_of ms = unbuilt (option_and_then (λ v. option_and_then if_path (get_member (codes "path") ms)) (view_of ms))
-
-abbrev pub take_of : Members → Option Ask
-take_of ms = unbuilt (option_and_then (λ v. optional flag_of (get_member (codes "wait") ms)) (view_of ms))
 
 -- the request of an object whose members all belong to its form
 abbrev pub ask_of : Op → Members → Option Ask

@@ -2,13 +2,15 @@ ghost use Rattle.std.specs.Prelude.{◌≡◌, IfOk, map, option_map};
 ghost use Rattle.serde_json.specs.Data.{array};
 ghost use Rattle.serde_json.specs.View.{view, items_of, items_view};
 ghost use Rattle.frame_types.specs.Refusals.{cause_text};
-ghost use Rattle.frame_json.specs.Replies.{lost_view, lost_data, at_items, table_reply, port_reply, batch_reply, losing_reply, opened_reply, rows_reply, closed_reply, left_reply, words_data, info_reply, refused_reply, reply_data};
+ghost use Rattle.frame_json.specs.Replies.{lost_view, lost_data, at_items, table_reply, port_reply, batch_reply, losing_reply, mark_data, opened_reply, delta_reply, resync_reply, rows_reply, closed_reply, left_reply, words_data, info_reply, refused_reply, reply_data};
 
-use crate::show::{header, pair, rows, words};
+use crate::show::{header, keys, pair, placed_rows, rows, words};
 use cell_core::{ColumnWords, Memory, Numbers, Text};
+use delta_core::{Delta, Mark};
 use frame_types::{Body, Cause, Refusal, Reply};
 use serde_json::{Map, Value, json, put};
 use std::alloc::Global;
+use view_types::Shown;
 
 fn cause_name(cause: Cause) -> &'static str
     ensures { result.now ≡ cause_text cause }
@@ -194,17 +196,76 @@ fn opened(
     n: u64,
     version: u64,
     edit: u64,
-    header: Value,
-    rows: Value,
+    shown: &Shown,
     view_number: u64,
 ) -> Result<Value, Memory>
-    ensures { IfOk result (λ v. view v
-        ≡ opened_reply n version edit (view header) (view rows) view_number) }
+    ensures { IfOk result (λ v. view v ≡ opened_reply n version edit shown.now view_number) }
 {
+    let header = header(alloc, shown.header.as_slice())?;
+    let rows = rows(alloc, shown.rows.as_slice())?;
     let mut found = Map::new(alloc);
     put(&mut found, alloc, "edit", Value::from(edit))?;
     put(&mut found, alloc, "header", header)?;
     put(&mut found, alloc, "is", words(alloc, "opened")?)?;
+    put(&mut found, alloc, "n", Value::from(n))?;
+    put(&mut found, alloc, "rows", rows)?;
+    put(&mut found, alloc, "version", Value::from(version))?;
+    put(&mut found, alloc, "view", Value::from(view_number))?;
+    Ok(Value::Object(found))
+}
+
+fn mark(alloc: Global, mark: Mark) -> Result<Value, Memory>
+    ensures { IfOk result (λ v. view v ≡ mark_data mark) }
+{
+    pair(alloc, Value::from(mark.version), Value::from(mark.edit))
+}
+
+fn delta(
+    alloc: Global,
+    n: u64,
+    version: u64,
+    delta: &Delta,
+    view_number: u64,
+) -> Result<Value, Memory>
+    ensures { IfOk result (λ v. view v ≡ delta_reply n version delta.now view_number) }
+{
+    let from = mark(alloc, delta.from)?;
+    let puts = placed_rows(alloc, delta.puts.as_slice())?;
+    let removed = keys(alloc, delta.removed.as_slice())?;
+    let mut found = Map::new(alloc);
+    put(&mut found, alloc, "edit", Value::from(delta.to.edit))?;
+    put(&mut found, alloc, "from", from)?;
+    if let Some(columns) = &delta.header {
+        let header = header(alloc, columns.as_slice())?;
+        put(&mut found, alloc, "header", header)?;
+    }
+    put(&mut found, alloc, "is", words(alloc, "delta")?)?;
+    put(&mut found, alloc, "n", Value::from(n))?;
+    put(&mut found, alloc, "put", puts)?;
+    put(&mut found, alloc, "removed", removed)?;
+    put(&mut found, alloc, "version", Value::from(version))?;
+    put(&mut found, alloc, "view", Value::from(view_number))?;
+    Ok(Value::Object(found))
+}
+
+fn resync(
+    alloc: Global,
+    n: u64,
+    version: u64,
+    bound: u64,
+    edit: u64,
+    shown: &Shown,
+    view_number: u64,
+) -> Result<Value, Memory>
+    ensures { IfOk result (λ v. view v ≡ resync_reply n version bound edit shown.now view_number) }
+{
+    let header = header(alloc, shown.header.as_slice())?;
+    let rows = rows(alloc, shown.rows.as_slice())?;
+    let mut found = Map::new(alloc);
+    put(&mut found, alloc, "bound", Value::from(bound))?;
+    put(&mut found, alloc, "edit", Value::from(edit))?;
+    put(&mut found, alloc, "header", header)?;
+    put(&mut found, alloc, "is", words(alloc, "resync")?)?;
     put(&mut found, alloc, "n", Value::from(n))?;
     put(&mut found, alloc, "rows", rows)?;
     put(&mut found, alloc, "version", Value::from(version))?;
@@ -218,14 +279,14 @@ fn shown_rows(
     version: u64,
     edit: u64,
     from: u64,
-    header: Value,
-    rows: Value,
+    shown: &Shown,
     size: u64,
     view_number: u64,
 ) -> Result<Value, Memory>
-    ensures { IfOk result (λ v. view v
-        ≡ rows_reply n version edit from (view header) (view rows) size view_number) }
+    ensures { IfOk result (λ v. view v ≡ rows_reply n version edit from shown.now size view_number) }
 {
+    let header = header(alloc, shown.header.as_slice())?;
+    let rows = rows(alloc, shown.rows.as_slice())?;
     let mut found = Map::new(alloc);
     put(&mut found, alloc, "edit", Value::from(edit))?;
     put(&mut found, alloc, "from", Value::from(from))?;
@@ -266,22 +327,21 @@ pub(crate) fn value_of_reply(alloc: Global, reply: &Reply) -> Result<Value, Memo
             let lost = lost_views(alloc, lost.as_slice())?;
             losing(alloc, n, version, lost, *port, *seq)
         }
-        Body::Opened { edit, shown, view } => {
-            let header = header(alloc, shown.header.as_slice())?;
-            let rows = rows(alloc, shown.rows.as_slice())?;
-            opened(alloc, n, version, *edit, header, rows, *view)
-        }
+        Body::Opened { edit, shown, view } => opened(alloc, n, version, *edit, shown, *view),
+        Body::Delta { delta: sent, view } => delta(alloc, n, version, sent, *view),
+        Body::Resync {
+            bound,
+            edit,
+            shown,
+            view,
+        } => resync(alloc, n, version, *bound, *edit, shown, *view),
         Body::Rows {
             edit,
             from,
             shown,
             size,
             view,
-        } => {
-            let header = header(alloc, shown.header.as_slice())?;
-            let rows = rows(alloc, shown.rows.as_slice())?;
-            shown_rows(alloc, n, version, *edit, *from, header, rows, *size, *view)
-        }
+        } => shown_rows(alloc, n, version, *edit, *from, shown, *size, *view),
         Body::Closed { view } => closed(alloc, n, version, *view),
         Body::Left { closed } => left(alloc, n, version, *closed),
         Body::Info {

@@ -4,8 +4,8 @@ ghost use Rattle.frame_types.specs.Asks.{request_view};
 ghost use Rattle.frame_json.specs.Requests.{table_of, port_of, view_of, update_of, replace_of, csv_of, list_of, remove_of, open_of, edit_of, depth_of, path_of, take_of, rows_of, ask_of};
 
 use crate::member::{
-    Members, bound_at, columns_at, flag_if_given, member, natural_at, taken, whole_if_given,
-    words_at, words_if_given,
+    Members, bound_at, columns_at, member, natural_at, taken, wait_at, whole_if_given, words_at,
+    words_if_given,
 };
 use crate::op::Op;
 use crate::path::is_path;
@@ -166,6 +166,14 @@ fn rows(members: &Members) -> Option<Request>
     Some(Request::Rows { view, from, to })
 }
 
+fn take(members: &Members) -> Option<Request>
+    ensures { option_map request_view result ≡ take_of (members_view members.now.entries) }
+{
+    let view = view_at(members)?;
+    let wait = wait_at(members)?;
+    Some(Request::Take { view, wait })
+}
+
 fn edit(members: &Members) -> Option<Request>
     ensures { option_map request_view result ≡ edit_of (members_view members.now.entries) }
 {
@@ -194,13 +202,5 @@ fn path(members: &Members) -> Option<Request>
     if !is_path(path) {
         return None;
     }
-    Some(Request::Unread(FrameCause::Unbuilt))
-}
-
-fn take(members: &Members) -> Option<Request>
-    ensures { option_map request_view result ≡ take_of (members_view members.now.entries) }
-{
-    let _view = view_at(members)?;
-    let _wait = flag_if_given(members, "wait")?;
     Some(Request::Unread(FrameCause::Unbuilt))
 }

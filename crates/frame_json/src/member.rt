@@ -1,7 +1,7 @@
 ghost use Rattle.std.specs.Prelude.{◌≡◌, ◌<◌, IfOk, IfSome, codes, option_map};
 ghost use Rattle.serde_json.specs.Find.{get_member, as_str};
 ghost use Rattle.serde_json.specs.View.{view, items_view, members_view};
-ghost use Rattle.frame_json.specs.Requests.{whole_of, natural_of, natural, words, flag_of, optional, bound_of, session_of, words_of, pair_of, column_of, columns_of, columns};
+ghost use Rattle.frame_json.specs.Requests.{whole_of, natural_of, natural, words, optional, bound_of, wait_of, session_of, words_of, pair_of, column_of, columns_of, columns};
 
 use cell_core::{ColumnWords, Columns, Listed, Memory, Text};
 use serde_json::{Map, Value};
@@ -39,16 +39,6 @@ pub(crate) fn whole_if_given(members: &Members, name: &str) -> Option<Option<i64
     match member(members, name) {
         None => Some(None),
         Some(value) => Some(Some(value.as_i64()?)),
-    }
-}
-
-/// A flag that may be left out.
-pub(crate) fn flag_if_given(members: &Members, name: &str) -> Option<Option<bool>>
-    ensures { result ≡ optional flag_of (get_member name.now (members_view members.now.entries)) }
-{
-    match member(members, name) {
-        None => Some(None),
-        Some(value) => Some(Some(value.as_bool()?)),
     }
 }
 
@@ -96,6 +86,16 @@ pub(crate) fn bound_at(members: &Members) -> Option<u64>
         Some(bound)
     } else {
         None
+    }
+}
+
+/// The `wait` of a `take`, which may be left out.
+pub(crate) fn wait_at(members: &Members) -> Option<bool>
+    ensures { result ≡ wait_of (get_member (codes "wait") (members_view members.now.entries)) }
+{
+    match member(members, "wait") {
+        None => Some(false),
+        Some(value) => value.as_bool(),
     }
 }
 

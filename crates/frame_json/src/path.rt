@@ -6,13 +6,11 @@ ghost use Rattle.row_batch.specs.Checks.{is_integer};
 ghost use Rattle.frame_json.specs.Requests.{holds, names_day, names_moment, is_tagged, is_tagged_pair, is_part, are_parts, count_items, is_path};
 
 use cal_units::{FIRST_MOMENT, LAST_MOMENT, read_date};
+use row_batch::MAX_INTEGER;
 use serde_json::{Number, Value};
 
 /// The most parts of a path.
 const MAX_PARTS: usize = 8;
-
-/// The greatest whole number of a part. The least is its negative.
-const MAX_INTEGER: i64 = 9_007_199_254_740_991;
 
 /// Whether a value is a path of a group: a list of at most 8 parts.
 pub(crate) fn is_path(value: &Value) -> bool

@@ -3,16 +3,18 @@ ghost use Rattle.serde_json.specs.Data.{no_members, string};
 ghost use Rattle.serde_json.specs.View.{view, members_view};
 ghost use Rattle.cal_units.specs.Calendar.{IsDay};
 ghost use Rattle.cal_units.specs.DateText.{date_text};
-ghost use Rattle.frame_json.specs.Replies.{pair as pair_data, triple as triple_data, tagged as tagged_data, whole_data, fraction_data, day_data, date_data, moment_data, value_data, part_data, row_key as row_key_data, group_key as group_key_data, column_data, header_data, with_cells, cells_data, row_data, rows_data};
+ghost use Rattle.frame_json.specs.Replies.{pair as pair_data, triple as triple_data, tagged as tagged_data, whole_data, fraction_data, day_data, date_data, moment_data, value_data, part_data, row_key as row_key_data, group_key as group_key_data, key_data, keys_data, column_data, header_data, with_cells, cells_data, row_data, rows_data, put_data, puts_data};
 
 use cal_units::{FIRST_DAY, LAST_DAY, write_date};
 use cell_core::{Cell, Fraction, Memory, Value as ShownValue};
+use delta_core::Put;
+use row_batch::MAX_INTEGER;
 use serde_json::{Map, Value, json, put};
 use std::alloc::Global;
 use view_types::{HeaderColumn, ShownCells, ShownRow, ViewKey};
 
-/// The greatest whole number that is written as a number, 2^53-1.
-const MAX_EXACT: i128 = 9007199254740991;
+/// The greatest whole number that is written as a number.
+const MAX_EXACT: i128 = MAX_INTEGER as i128;
 
 pub(crate) fn words(alloc: Global, text: &str) -> Result<Value, Memory>
     ensures { IfOk result (λ v. view v ≡ string text.now) }
@@ -133,6 +135,25 @@ fn row_key(alloc: Global, cell: &Cell) -> Result<Value, Memory>
     tagged(alloc, "r", part(alloc, cell)?)
 }
 
+fn key(alloc: Global, key: &ViewKey) -> Result<Value, Memory>
+    ensures { IfOk result (λ v. view v ≡ key_data key.now) }
+{
+    match key {
+        ViewKey::Row(cell) => row_key(alloc, cell),
+        ViewKey::Group(path) => group_key(alloc, path.as_slice()),
+    }
+}
+
+pub(crate) fn keys(alloc: Global, keys: &[ViewKey]) -> Result<Value, Memory>
+    ensures { IfOk result (λ v. view v ≡ keys_data keys.now) }
+{
+    let mut found = Vec::new(alloc);
+    for item in keys {
+        found.push(key(alloc, item)?)?;
+    }
+    Ok(Value::Array(found))
+}
+
 fn column(alloc: Global, column: &HeaderColumn) -> Result<Value, Memory>
     ensures { IfOk result (λ v. view v ≡ column_data column.now) }
 {
@@ -181,6 +202,24 @@ pub(crate) fn rows(alloc: Global, rows: &[ShownRow]) -> Result<Value, Memory>
     let mut found = Vec::new(alloc);
     for item in rows {
         found.push(row(alloc, item)?)?;
+    }
+    Ok(Value::Array(found))
+}
+
+/// A row, with the position at which it is put.
+fn placed_row(alloc: Global, placed: &Put) -> Result<Value, Memory>
+    ensures { IfOk result (λ v. view v ≡ put_data placed.now) }
+{
+    let shown = row(alloc, &placed.row)?;
+    pair(alloc, Value::from(placed.position), shown)
+}
+
+pub(crate) fn placed_rows(alloc: Global, placed: &[Put]) -> Result<Value, Memory>
+    ensures { IfOk result (λ v. view v ≡ puts_data placed.now) }
+{
+    let mut found = Vec::new(alloc);
+    for item in placed {
+        found.push(placed_row(alloc, item)?)?;
     }
     Ok(Value::Array(found))
 }

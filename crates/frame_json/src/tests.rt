@@ -2,6 +2,7 @@ ghost use Rattle.std.specs.Prelude.{◌≡◌, false, IfOk};
 
 use crate::{read_request, write_reply};
 use cell_core::{Cell, ColumnWords, Fraction, Listed, Memory, Numbers, Text, Value};
+use delta_core::{Delta, Keys, Mark, Put, Puts};
 use frame_types::{Body, Cause, FrameCause, Refusal, Reply, Request};
 use std::alloc::Global;
 use std::test::Fail;
@@ -23,6 +24,8 @@ fn form(request: &Request) -> &'static str {
         Request::ClosePort { .. } => "close_port",
         Request::Apply { .. } => "apply",
         Request::Open { .. } => "open",
+        Request::Take { wait: false, .. } => "take",
+        Request::Take { wait: true, .. } => "take, waiting",
         Request::Rows { .. } => "rows",
         Request::Close { .. } => "close",
         Request::Unread(cause) => cause_name(*cause),
@@ -48,7 +51,7 @@ fn read(alloc: Global, line: &[u8], scripted: bool) -> Result<(&'static str, u32
 
 #[test]
 fn lines_are_read(rt: HostRuntime) -> Result<(), Fail> {
-    let lines: [(&[u8], &str); 32] = [
+    let lines: [(&[u8], &str); 35] = [
         (
             b"{\"op\":\"table\",\"columns\":[[\"k\",\"integer\"],[\"v\",\"date\"]],\"index\":\"k\"}",
             "table",
@@ -80,8 +83,14 @@ fn lines_are_read(rt: HostRuntime) -> Result<(), Fail> {
         (b"{\"op\":\"apply\",\"port\":1.0}", "member"),
         (b"{\"op\":\"open\",\"plan\":{},\"bound\":65537}", "member"),
         (b"{\"op\":\"remove\",\"port\":0,\"keys\":{}}", "member"),
+        (b"{\"op\":\"take\",\"view\":0}", "take"),
+        (
+            b"{\"op\":\"take\",\"view\":0,\"wait\":true}",
+            "take, waiting",
+        ),
         (b"{\"op\":\"take\",\"view\":0,\"wait\":1}", "member"),
-        (b"{\"op\":\"take\",\"view\":0,\"wait\":true}", "unbuilt"),
+        (b"{\"op\":\"take\",\"view\":0,\"to\":1}", "member"),
+        (b"{\"op\":\"take\",\"wait\":true}", "member"),
         (b"{\"op\":\"depth\",\"view\":0,\"depth\":9}", "member"),
         (
             b"{\"op\":\"expand\",\"view\":0,\"path\":[null,true,-1,\"x\",[\"d\",\"2024-02-29\"],[\"t\",0]]}",
@@ -108,7 +117,7 @@ fn a_script_names_sessions(rt: HostRuntime) -> Result<(), Fail> {
     assert_eq!(rt; read(alloc, last, false)?, ("member", 0));
     let many = b"{\"op\":\"port\",\"session\":64}";
     assert_eq!(rt; read(alloc, many, true)?, ("member", 0));
-    let unbuilt = b"{\"op\":\"take\",\"session\":3,\"view\":0}";
+    let unbuilt = b"{\"op\":\"depth\",\"session\":3,\"view\":0,\"depth\":8}";
     assert_eq!(rt; read(alloc, unbuilt, true)?, ("unbuilt", 0));
     Ok(())
 }
@@ -246,13 +255,15 @@ fn header(alloc: Global) -> Result<Header, Memory> {
     Ok(header)
 }
 
-fn whole_row(alloc: Global, key: i64, value: i64) -> Result<ShownRow, Memory>
+fn whole_row(alloc: Global, key: i64, value: Option<i64>) -> Result<ShownRow, Memory>
     ensures key { IfOk result (λ row. row.key ≡ ViewKey.Row (Cell.Int key)) }
     ensures mark { IfOk result (λ row. row.mark ≡ false) }
 {
     let mut cells = ShownCells::new(alloc);
     cells.put(Text::from_str(alloc, "k")?, Value::Whole(key as i128))?;
-    cells.put(Text::from_str(alloc, "v")?, Value::Whole(value as i128))?;
+    if let Some(value) = value {
+        cells.put(Text::from_str(alloc, "v")?, Value::Whole(value as i128))?;
+    }
     Ok(ShownRow {
         key: ViewKey::Row(Cell::Int(key)),
         mark: false,
@@ -262,8 +273,8 @@ fn whole_row(alloc: Global, key: i64, value: i64) -> Result<ShownRow, Memory>
 
 fn two_rows(alloc: Global) -> Result<ShownRows, Memory> {
     let mut rows = Listed::new(alloc);
-    rows.push(whole_row(alloc, 1, 7)?)?;
-    rows.push(whole_row(alloc, 2, 5)?)?;
+    rows.push(whole_row(alloc, 1, Some(7))?)?;
+    rows.push(whole_row(alloc, 2, Some(5))?)?;
     Ok(ShownRows::from_listed(rows))
 }
 
@@ -287,6 +298,99 @@ fn an_opened_view_is_written(rt: HostRuntime) -> Result<(), Fail> {
     let want =
         "{\"edit\":0,\"header\":[[\"k\",\"integer\"],[\"v\",\"integer\"]],\"is\":\"opened\",\"n\":5,\"rows\":[[[\"r\",1],{\"k\":1,\"v\":7}],[[\"r\",2],{\"k\":2,\"v\":5}]],\"version\":1,\"view\":0}";
     assert_eq!(rt; opened.as_str(), want);
+    Ok(())
+}
+
+fn mark(version: u64, edit: u64) -> Mark {
+    Mark { version, edit }
+}
+
+/// A delta that removes nothing and has no header.
+fn delta(alloc: Global, from: Mark, to: Mark, puts: Puts) -> Delta {
+    Delta {
+        from,
+        to,
+        removed: Keys::from_listed(Listed::new(alloc)),
+        puts,
+        header: None,
+    }
+}
+
+fn one_put(alloc: Global) -> Result<Puts, Memory> {
+    let mut puts = Listed::new(alloc);
+    let row = whole_row(alloc, 1, None)?;
+    puts.push(Put { position: 0, row })?;
+    Ok(Puts::from_listed(puts))
+}
+
+#[test]
+fn deltas_are_written(rt: HostRuntime) -> Result<(), Fail> {
+    let alloc = rt.alloc();
+    let no_puts = Puts::from_listed(Listed::new(alloc));
+    let same = Body::Delta {
+        delta: delta(alloc, mark(0, 0), mark(2, 0), no_puts),
+        view: 0,
+    };
+    let want =
+        "{\"edit\":0,\"from\":[0,0],\"is\":\"delta\",\"n\":8,\"put\":[],\"removed\":[],\"version\":2,\"view\":0}";
+    assert_eq!(rt; written(alloc, 8, 2, same)?.as_str(), want);
+    let changed = Body::Delta {
+        delta: delta(alloc, mark(2, 0), mark(3, 0), one_put(alloc)?),
+        view: 0,
+    };
+    let want =
+        "{\"edit\":0,\"from\":[2,0],\"is\":\"delta\",\"n\":11,\"put\":[[0,[[\"r\",1],{\"k\":1}]]],\"removed\":[],\"version\":3,\"view\":0}";
+    assert_eq!(rt; written(alloc, 11, 3, changed)?.as_str(), want);
+    Ok(())
+}
+
+fn one_key(alloc: Global) -> Result<Keys, Memory> {
+    let mut path = Listed::new(alloc);
+    path.push(Cell::Words(Text::from_str(alloc, "x")?))?;
+    let mut keys = Listed::new(alloc);
+    keys.push(ViewKey::Group(path))?;
+    Ok(Keys::from_listed(keys))
+}
+
+#[test]
+fn a_header_and_a_removed_key_are_written(rt: HostRuntime) -> Result<(), Fail> {
+    let alloc = rt.alloc();
+    let delta = Delta {
+        from: mark(1, 0),
+        to: mark(3, 2),
+        removed: one_key(alloc)?,
+        puts: Puts::from_listed(Listed::new(alloc)),
+        header: Some(header(alloc)?),
+    };
+    let want =
+        "{\"edit\":2,\"from\":[1,0],\"header\":[[\"k\",\"integer\"],[\"v\",\"integer\"]],\"is\":\"delta\",\"n\":9,\"put\":[],\"removed\":[[\"g\",\"x\"]],\"version\":3,\"view\":4}";
+    let body = Body::Delta { delta, view: 4 };
+    assert_eq!(rt; written(alloc, 9, 3, body)?.as_str(), want);
+    Ok(())
+}
+
+fn one_row(alloc: Global) -> Result<ShownRows, Memory> {
+    let mut rows = Listed::new(alloc);
+    rows.push(whole_row(alloc, 1, Some(1))?)?;
+    Ok(ShownRows::from_listed(rows))
+}
+
+#[test]
+fn a_resynchronisation_is_written(rt: HostRuntime) -> Result<(), Fail> {
+    let alloc = rt.alloc();
+    let shown = Shown {
+        header: header(alloc)?,
+        rows: one_row(alloc)?,
+    };
+    let body = Body::Resync {
+        bound: 0,
+        edit: 0,
+        shown,
+        view: 0,
+    };
+    let want =
+        "{\"bound\":0,\"edit\":0,\"header\":[[\"k\",\"integer\"],[\"v\",\"integer\"]],\"is\":\"resync\",\"n\":7,\"rows\":[[[\"r\",1],{\"k\":1,\"v\":1}]],\"version\":1,\"view\":0}";
+    assert_eq!(rt; written(alloc, 7, 1, body)?.as_str(), want);
     Ok(())
 }
 

@@ -10,7 +10,8 @@ use std::alloc::Global;
 /// no line end.
 ///
 /// A whole number further from 0 than 2^53-1, which many readers of JSON would round, is written as
-/// `["i","digits"]` in a cell.
+/// `["i","digits"]` in a cell. Of the mark at which a delta ends the text has the edit number alone, since the
+/// version is the reply's own.
 pub fn write_reply(alloc: Global, reply: &Reply) -> Result<Text, Memory>
     ensures { IfOk result (λ t. t ≡ text reply.now) }
 {

@@ -1,5 +1,5 @@
 -- A request as data: `Request` with each JSON value that is judged later as its data.
-use Rattle.std.specs.Prelude.{ℕ, ℤ, List, Option}
+use Rattle.std.specs.Prelude.{ℕ, ℤ, Bool, List, Option}
 use Rattle.cell_core.specs.RawData.{RawData}
 use Rattle.cell_core.specs.RawViews.{raw_view}
 use Rattle.cell_core.specs.declared.schema.ColumnWords.{ColumnWords}
@@ -21,6 +21,7 @@ pub data Ask : Type 0 where
   close_port : ℕ → Ask
   apply : ℕ → Ask
   open_view : RawData → ℕ → Ask
+  take : ℕ → Bool → Ask
   rows : ℕ → ℕ → ℕ → Ask
   close : ℕ → Ask
   unread : FrameCause → Ask
@@ -38,6 +39,7 @@ request_view (request.Clear p) = clear p
 request_view (request.ClosePort p) = close_port p
 request_view (request.Apply p) = apply p
 request_view (request.Open plan bound) = open_view (raw_view plan) bound
+request_view (request.Take view wait) = take view wait
 request_view (request.Rows view first end) = rows view first end
 request_view (request.Close view) = close view
 request_view (request.Unread cause) = unread cause

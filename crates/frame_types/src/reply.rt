@@ -1,45 +1,83 @@
 use cell_core::{Columns, Listed, Numbers, Text};
+use delta_core::Delta;
 use view_types::Shown;
 
 /// Why a request was refused, in a refusal's words. One cause can stand under several codes.
 #[derive(Clone, Copy, Debug, Drop, PartialEq, Eq)]
 pub enum Cause {
+    /// A line or a text is too long.
     Long,
+    /// A line is no JSON text in UTF-8.
     Json,
+    /// A line is no JSON object.
     Object,
+    /// A request names no form.
     Op,
+    /// A member of a request is missing, unknown or not of its form.
     Member,
+    /// A form or a plan isn't built yet.
     Unbuilt,
+    /// A table was made before.
     TableSet,
+    /// A table is to have no columns.
     NoColumns,
+    /// A table is to have too many columns.
     TooManyColumns,
+    /// A column's name is empty or too long.
     NameLength,
+    /// A column's type is none, or a cell is not of its column's type.
     BadType,
+    /// A name stands twice.
     Twice,
+    /// A table is to have both a primary key and a greatest number of rows.
     IndexAndLimit,
+    /// A primary key is no column, or a row's is left out or null.
     Index,
+    /// A greatest number of rows is out of its range.
     Limit,
+    /// Too many ports are in use.
     TooManyPorts,
+    /// No port of that number was made.
     NoPort,
+    /// The port was closed.
     PortClosed,
+    /// A value is not of the shape of rows or of keys.
     Shape,
+    /// A record has another number of fields than the first.
     Csv,
+    /// A text has no record, so that no column is named.
     Header,
+    /// A name is that of no column.
     Unknown,
+    /// Lists that stand for rows are not of one length.
     Length,
+    /// A batch has too many rows or keys.
     Rows,
+    /// A text is no date, or no datetime.
     Date,
+    /// A whole number or a datetime is out of its range.
     Range,
+    /// The table has no primary key.
     NotIndexed,
+    /// Too many batches wait on the port.
     PortFull,
+    /// The table would have too many rows.
     TableFull,
+    /// Too many requests were answered.
     HistoryFull,
+    /// No batch waits on the port.
     Empty,
+    /// Too many views are held.
     TooManyViews,
+    /// The session holds no view of that number.
     NoView,
+    /// An update of the view found no memory.
     ViewLost,
+    /// A window of rows ends before it begins.
     Window,
+    /// No table was made.
     NoTable,
+    /// Memory was wanted and not given.
     Memory,
 }
 
@@ -57,17 +95,22 @@ pub type Lost = Listed<(u32, u64)>;
 /// What a request is answered, besides the numbers that every reply has.
 #[derive(Debug, Drop)]
 pub enum Body {
+    /// The table was made.
     Table,
+    /// The port of that number was made.
     Port {
         port: u64,
     },
+    /// The port was closed.
     PortClosed {
         port: u64,
     },
+    /// The batch waits on the port as its number `seq`, counted from 1.
     Queued {
         port: u64,
         seq: u64,
     },
+    /// The batch that was number `seq` of the port was applied.
     Applied {
         port: u64,
         seq: u64,
@@ -78,18 +121,35 @@ pub enum Body {
         port: u64,
         seq: u64,
     },
+    /// The view of that number was opened, and this is what it shows.
     Opened {
         edit: u64,
         shown: Shown,
         view: u64,
     },
+    /// What changed in the view since the last opening, delta or resynchronisation that was answered for
+    /// it.
+    Delta {
+        delta: Delta,
+        view: u64,
+    },
+    /// What the view shows, in place of a delta: more of its keys were touched since then than `bound`.
+    Resync {
+        bound: u64,
+        edit: u64,
+        shown: Shown,
+        view: u64,
+    },
+    /// The rows of the view from position `from` on.
     Rows {
         edit: u64,
         from: u64,
         shown: Shown,
+        /// The number of rows of the whole view.
         size: u64,
         view: u64,
     },
+    /// The view was closed.
     Closed {
         view: u64,
     },
@@ -97,6 +157,7 @@ pub enum Body {
     Left {
         closed: u64,
     },
+    /// What the table is kept under, and how much it holds.
     Info {
         columns: Columns,
         index: Option<Text>,
@@ -106,6 +167,7 @@ pub enum Body {
         /// How many batches wait on all ports.
         waiting: u64,
     },
+    /// Why the request was refused.
     Refused(Refusal),
 }
 

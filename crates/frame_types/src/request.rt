@@ -71,6 +71,12 @@ pub enum Request {
         plan: Raw,
         bound: u64,
     },
+    /// Asks for what changed in a view since the last opening, delta or resynchronisation that was answered
+    /// for it. `wait` has no effect on the answer.
+    Take {
+        view: u64,
+        wait: bool,
+    },
     /// Asks for the rows at positions `from` up to and without `to`.
     Rows {
         view: u64,

@@ -15,5 +15,5 @@ pub fresh_holds : (m : Machine) → m.table ≡ None → m.version ≡ 0 → m.p
 fresh_holds m table version none views sessions opened = record {
   table = record { schema = ap schema_in table; kept = reordered empty_store _ (sym (ap store_in table)); version = version; bare = λ _. refl };
   ports = fresh_ports m.ports none;
-  views = record { views = views; sessions = sessions; opened = opened };
+  views = record { views = views; sessions = sessions; opened = opened; numbered = tt; bare = λ _. refl };
 }

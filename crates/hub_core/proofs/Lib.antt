@@ -1,11 +1,16 @@
+pub mod Applying
 pub mod Checks
 pub mod Counting
 pub mod Fresh
+pub mod KeptViewLaws
 pub mod Live
+pub mod Losses
+pub mod Numbered
 pub mod Numbers
 pub mod Parts
 pub mod PortChanges
 pub mod PortDeeds
+pub mod Refreshes
 pub mod Refusing
 pub mod RowOrders
 pub mod Rooms

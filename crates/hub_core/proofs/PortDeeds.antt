@@ -1,15 +1,15 @@
 -- What each request on a port does.
-use Rattle.std.proofs.Common.{◌≡◌, ℕ, ◌+◌, ◌<◌, ◌≤◌, ◌^◌, ◌-◌, min, eqb, leb, ltb, Bool, true, false, List, [], ◌∷◌, ◌++◌, length, map, drop, Option, Some, None, Result, Ok, Err, unwrap_or, option_and_then, if◌then◌else◌, inl, inr, refl, sym, ap, ◌∙◌, arith, subst, length-drop}
-use Rattle.std.specs.Prelude.{slice_get, is_none, not}
+use Rattle.std.proofs.Common.{◌≡◌, ℕ, ◌+◌, ◌<◌, ◌≤◌, eqb, leb, ltb, Bool, true, false, List, [], ◌∷◌, ◌++◌, length, map, Option, Some, None, Result, Ok, Err, unwrap_or, option_and_then, if◌then◌else◌, inl, inr, refl, sym, ap, ◌∙◌, arith, subst}
+use Rattle.std.specs.Prelude.{slice_get, is_none, is_some, option_map, ℤ, not}
 use Rattle.std.specs.List.{list_any}
 use Rattle.std.specs.Result.{result_ok}
-use Rattle.std.proofs.lemmas.Bool.{cases_lt, ne_eqb, lt-ltb, le-ltb, ltb-false}
+use Rattle.std.proofs.lemmas.Bool.{cases_lt, lt-ltb, le-ltb, ltb-false}
 use Rattle.plain_data.specs.Faults.{first_fault}
 use Rattle.cell_core.specs.declared.cell.Cell.{Cell}
-use Rattle.cell_core.specs.declared.schema.Keeping.TheVariants.{Indexed}
-use Rattle.cell_core.specs.Schemas.{SchemaData}
+use Rattle.cell_core.specs.declared.schema.Keeping.{Keeping}
+use Rattle.cell_core.specs.declared.schema.Keeping.TheVariants.{Indexed, Limited, Free}
+use Rattle.cell_core.specs.Schemas.{SchemaData, schema_of}
 use Rattle.cell_core.specs.declared.schema.ColumnWords.{ColumnWords}
-use Rattle.row_batch.specs.Batches.{put_batch}
 use Rattle.row_batch.specs.Checks.{IsChecked, counted_fault, patches_fault}
 use Rattle.row_batch.specs.Reading.{RefusesRows}
 use Rattle.row_batch.specs.Tables.{IsReordered}
@@ -24,15 +24,15 @@ use Rattle.port_queue.specs.declared.queue.QueueRefused.{QueueRefused}
 use Rattle.port_queue.specs.declared.queue.QueueRefused.TheVariants as queue
 use Rattle.hub_ports.specs.declared.ports.PutRefused.{PutRefused}
 use Rattle.hub_ports.specs.declared.ports.PutRefused.TheVariants as put_refused
-use Rattle.hub_ports.specs.Ports.{PutAnswers, PortsData, port_at, put_on, taken_off, closed_at, with_port, waiting_on}
+use Rattle.hub_ports.specs.Ports.{PutAnswers, PortsData, port_at, put_on, closed_at, with_port, waiting_on}
 use Rattle.frame_types.specs.Asks.{Ask}
 use Rattle.frame_types.specs.Asks as ask
-use Rattle.frame_types.specs.Refusals.{no_table, no_port, port_closed, bad_rows, port_full, table_full, empty, too_many_ports, not_indexed, memory}
+use Rattle.frame_types.specs.Refusals.{no_table, no_port, port_closed, bad_rows, port_full, table_full, empty, too_many_ports, not_indexed, table_set, memory}
 use Rattle.frame_types.specs.declared.reply.Body.{Body}
 use Rattle.frame_types.specs.declared.reply.Body.TheVariants as body
 use Rattle.frame_types.specs.declared.reply.Refusal.{Refusal}
 use Rattle.hub_spec.specs.Answered.{Answered}
-use Rattle.hub_spec.specs.Answers.{first_of, unless_refused, granted, queued, too_many_rows, without_table, without_port, closed_port, full_port, full_table, full_table_for, bad_batch, faulty_rows, without_index, is_indexed, column_words, index_name, limit_in}
+use Rattle.hub_spec.specs.Answers.{first_of, unless_refused, granted, faulty_schema, queued, too_many_rows, without_table, without_port, closed_port, full_port, full_table, full_table_for, bad_batch, faulty_rows, without_index, is_indexed, column_words, index_name, limit_in}
 use Rattle.hub_spec.specs.Histories.{may_choose, want}
 use Rattle.hub_spec.specs.Ports as ports
 use Rattle.hub_spec.specs.Reading.{read_batch, read_as, batch_asked}
@@ -48,13 +48,12 @@ use Rattle.hub_core.specs.Rooms.{over, room_taken}
 use Rattle.hub_core.specs.Tables.{schema_in, store_in}
 use Rattle.hub_core.specs.declared.machine.Machine.{Machine}
 use Rattle.hub_core.proofs.Checks.{Check, two_pass, two_stop, passes, stops, IsOther, GoesByAnswer, may_want}
-use Rattle.hub_core.proofs.Counting.{accepted_le, applied_le}
+use Rattle.hub_core.proofs.KeptViewLaws.{quiet_views}
 use Rattle.hub_core.proofs.Live.{port_is, port_made, not_kept, unused_is, all_waiting_is}
 use Rattle.hub_core.proofs.Parts.{HasParts, holds_by}
-use Rattle.hub_core.proofs.PortChanges.{queued_ports, applied_ports, closed_ports, made_ports}
+use Rattle.hub_core.proofs.PortChanges.{queued_ports, closed_ports, made_ports}
 use Rattle.hub_core.proofs.Refusing.{refused_does, wanted_does}
 use Rattle.hub_core.proofs.RowOrders.{rows_of_all-IsPermutation, store_keyed}
-use Rattle.hub_core.proofs.TableChanges.{applied_table}
 
 -- ---- the checks of a request that needs an open port
 
@@ -220,7 +219,7 @@ put_done m past session request place seq b h lt is_open asked out after parts =
       holds_by after m.table m.version (record m.ports { live = put_on m.ports.live place b }) m.views.items m.opened _ parts
       (record { schema = h.table.schema; kept = h.table.kept; version = h.table.version; bare = h.table.bare })
       (queued_ports m.ports past session request n version place seq b h.ports lt is_open asked)
-      (record { views = h.views.views; sessions = h.views.sessions; opened = h.views.opened });
+      (quiet_views m.views.items m.opened past _ h.views refl refl refl (λ s. refl) (λ s number. refl));
 }
 
 -- ---- a batch that puts rows
@@ -314,7 +313,7 @@ make_done m past session t h is free after parts =
           holds_by after m.table m.version (with_port m.ports) m.views.items m.opened _ parts
           (record { schema = h.table.schema; kept = h.table.kept; version = h.table.version; bare = h.table.bare })
           (made_ports m.ports past session ask.port n version m.ports.made h.ports)
-          (record { views = h.views.views; sessions = h.views.sessions; opened = h.views.opened });
+          (quiet_views m.views.items m.opened past _ h.views refl refl refl (λ s. refl) (λ s number. refl));
     }
 
 pub make_wants : (m : Machine) (past : List Answered) (session : ℕ) (t : TableData) → Holds m past → m.table ≡ Some t → leb 16 (length m.ports.live) ≡ false
@@ -337,7 +336,7 @@ close_done m past session port place t h is lt number is_open after parts =
           (record { schema = h.table.schema; kept = h.table.kept; version = h.table.version; bare = h.table.bare })
           (subst (λ p. HoldsPorts kept (with_step session (ask.close_port port) n version (body.PortClosed p) past)) number
           (closed_ports m.ports past session (ask.close_port port) n version place h.ports lt))
-          (record { views = h.views.views; sessions = h.views.sessions; opened = h.views.opened });
+          (quiet_views m.views.items m.opened past _ h.views refl refl refl (λ s. refl) (λ s number. refl));
     }
 
 -- ---- the oldest batch is applied
@@ -373,51 +372,6 @@ apply_empty m past session port place t h is made lt number none =
     empty_does m past session port t h is (omega (arith, h.ports.made))
     (ap (ports.waiting past) (sym number) ∙ waits_is m past place h lt ∙ none_waits (port_at m.ports.live place).queue.waiting none)
 
-first_and_rest : {X : Type 0} (xs : List X) (x : X) → slice_get xs 0 ≡ Some x → xs ≡ x ∷ drop 1 xs
-first_and_rest [] x e = absurd (cc)
-first_and_rest (y ∷ ys) x e = let same : y ≡ x = cc in ap (λ z. z ∷ ys) same
-
-pub apply_done : (m : Machine) (past : List Answered) (session port place : ℕ) (before table : TableData) (number seq : ℕ) (b : Batch)
-    → Holds m past → length past < 2 ^ 53 → m.table ≡ Some before
-    → place < length m.ports.live → (port_at m.ports.live place).number ≡ port
-    → slice_get (port_at m.ports.live place).queue.waiting 0 ≡ Some b → table.schema ≡ before.schema → IsReordered (put_batch before.schema before.store b) table.store
-    → number ≡ min (m.version + 1) (2 ^ 64 - 1)
-    → seq ≡ min ((port_at m.ports.live place).queue.accepted - length (port_at m.ports.live place).queue.waiting + 1) (2 ^ 64 - 1)
-    → (after : Machine) → HasParts after (Some table) number (record m.ports { live = taken_off m.ports.live place }) m.views.items m.opened
-    → Does past session (ask.apply port) (body.Applied port seq) after
-apply_done m past session port place before table number seq b h few is lt at front same put next seq_is after parts =
-    let some : ports.schema past ≡ Some before.schema = table_made m past before h is in
-    let p = port_at m.ports.live place in
-    let was = (port_is past m.ports place h.ports lt).0 in
-    let waits : ports.waiting past port ≡ p.queue.waiting = ap (ports.waiting past) (sym at) ∙ waits_is m past place h lt in
-    let first : ports.waiting past port ≡ b ∷ drop 1 p.queue.waiting = waits ∙ first_and_rest p.queue.waiting b front in
-    let made : port < ports.ports past =
-    elim (cases_lt p.number (ports.ports past)) as (λ _. port < ports.ports past) [
-      | inl less ↦ omega (arith, at, less)
-      | inr le ↦ absurd (port_made past m.ports place h.ports lt le)
-    ] in
-    let has : ports.has_port past port ≡ true = lt-ltb port (ports.ports past) made in
-    let nonempty : length (ports.waiting past port) ≡ 0 → ⊥ = λ e. absurd (omega (arith, e, ap length first)) in
-    let tested : eqb (length (ports.waiting past port)) 0 ≡ false = ne_eqb _ 0 nonempty in
-    let plain : plain_in past session (ask.apply port) ≡ body.Applied port (ports.taken past port + 1) = rw (some, has, tested) refl in
-    let accepted : p.queue.accepted ≡ length (ports.accepted past port) =
-    ap (λ q. q.queue.accepted) was ∙ ap (λ k. length (ports.accepted past k)) at in
-    let taken : p.queue.accepted - length p.queue.waiting ≡ ports.taken past port =
-    omega (arith, accepted, ap length waits, h.ports.within port, length-drop (ports.taken past port) (ports.accepted past port)) in
-    let one_more : seq ≡ ports.taken past port + 1 = omega (arith, seq_is, taken, h.ports.within port, accepted_le past port) in
-    let raised : number ≡ m.version + 1 = omega (arith, next, h.table.version, applied_le past) in
-    let waiting_some : 0 < length p.queue.waiting = omega (arith, ap length (first_and_rest p.queue.waiting b front)) in
-    let kept : PortsData = record m.ports { live = taken_off m.ports.live place } in
-    record {
-      given = record { right = ap (body.Applied port) one_more ∙ sym plain; allowed = refl };
-      holds = λ n version.
-          holds_by after (Some table) number kept m.views.items m.opened _ parts
-          (rw raised (applied_table m.table before table m.version past session (ask.apply port) n version port seq b (drop 1 p.queue.waiting) h.table is first same put))
-          (subst (λ k. HoldsPorts kept (with_step session (ask.apply port) n version (body.Applied k seq) past)) at
-          (applied_ports m.ports past session (ask.apply port) n version place seq h.ports lt waiting_some))
-          (record { views = h.views.views; sessions = h.views.sessions; opened = h.views.opened });
-    }
-
 -- what a request queues has a table
 pub table_of : (m : Machine) (past : List Answered) (request : Ask) (b : Batch) → Holds m past → batch_asked (ports.schema past) request ≡ Some b
     → (t : TableData) × (m.table ≡ Some t)
@@ -450,9 +404,15 @@ info_does m past session t columns index limit size waits h is columns_are index
       holds = λ n version. record {
         table = record { schema = h.table.schema; kept = h.table.kept; version = h.table.version; bare = h.table.bare };
         ports = record { made = h.ports.made; live = h.ports.live; within = h.ports.within; unmade = h.ports.unmade };
-        views = record { views = h.views.views; sessions = h.views.sessions; opened = h.views.opened };
+        views = quiet_views m.views.items m.opened past _ h.views refl refl refl (λ s. refl) (λ s number. refl);
       };
     }
+
+pub info_wants : (m : Machine) (past : List Answered) (session : ℕ) (t : TableData) → Holds m past → m.table ≡ Some t
+    → Does past session ask.info (body.Refused memory) m
+info_wants m past session t h is =
+    let some = table_made m past t h is in
+    wanted_does m past session ask.info (plain_in past session ask.info) h (rw some refl)
 
 -- ---- rows and keys that are read
 
@@ -520,6 +480,63 @@ keys_plain m past request port plain t column outcome keys h is plain_is checked
     plain_is ∙ port_pass m past port (without_index past ∷ rest) (queued past port) t h is checked
     ∙ ap (λ k. first_of ((not (is_indexed k), not_indexed) ∷ rest) (queued past port)) keeping
     ∙ read_pass m past request (full_port past port ∷ []) (queued past port) t batch.Remove outcome keys h is read good
+
+skipped : (a b c : Bool) (v w x y : Refusal) (rest : List Check) (granted : Body)
+    → first_of ((a, v) ∷ (b, w) ∷ (c, x) ∷ (false, y) ∷ rest) granted ≡ first_of ((a, v) ∷ (b, w) ∷ (c, x) ∷ rest) granted
+skipped true b c v w x y rest granted = refl
+skipped false true c v w x y rest granted = refl
+skipped false false true v w x y rest granted = refl
+skipped false false false v w x y rest granted = refl
+
+-- keys that can't be read
+pub keys_stop : (m : Machine) (past : List Answered) (session : ℕ) (request : Ask) (port : ℕ) (plain : Body) (t : TableData) (column : ℕ)
+    (outcome : Result (List Cell) BatchRefused) (why : RowsRefused)
+    → Holds m past → m.table ≡ Some t
+    → plain ≡ first_of (without_table past ∷ without_port past port ∷ closed_port past port ∷ without_index past ∷ bad_batch past request ∷ full_port past port ∷ []) (queued past port)
+    → first_fault (without_port past port ∷ closed_port past port ∷ []) ≡ None
+    → t.schema.keeping ≡ Indexed column
+    → read_batch t.schema request ≡ Some (read_as batch.Remove outcome) → RefusesRows outcome why
+    → may_choose past request want (first_of (bad_batch past request ∷ full_port past port ∷ []) (queued past port)) ≡ true
+    → DoesBy plain past session request (body.Refused (rows_refusal why)) m
+keys_stop m past session request port plain t column outcome why h is plain_is checked indexed read refuses may =
+    let rest : List Check = bad_batch past request ∷ full_port past port ∷ [] in
+    let keeping : (rows.schema_or_none past).keeping ≡ Indexed column = ap (λ o. (unwrap_or o rows.no_schema).keeping) (table_made m past t h is) ∙ indexed in
+    read_stop m past session request port (full_port past port ∷ []) plain (queued past port) t batch.Remove outcome why h is
+    (plain_is
+    ∙ ap (λ k. first_of (without_table past ∷ without_port past port ∷ closed_port past port ∷ (not (is_indexed k), not_indexed) ∷ rest) (queued past port)) keeping
+    ∙ skipped (is_none (ports.schema past)) (not (ports.has_port past port)) (ports.is_closed past port) no_table no_port port_closed not_indexed rest (queued past port))
+    checked read refuses may
+
+pub not_indexed_by : (keeping : Keeping) → ((column : ℕ) → keeping ≡ Indexed column → ⊥) → is_indexed keeping ≡ false
+not_indexed_by (Indexed column) other = absurd (other column refl)
+not_indexed_by (Limited slots) other = refl
+not_indexed_by Free other = refl
+
+-- keys on a table that has no primary key
+pub index_stop : (m : Machine) (past : List Answered) (session : ℕ) (request : Ask) (port : ℕ) (rest : List Check) (plain granted : Body) (t : TableData)
+    → Holds m past → m.table ≡ Some t
+    → plain ≡ first_of (without_table past ∷ without_port past port ∷ closed_port past port ∷ without_index past ∷ rest) granted
+    → first_fault (without_port past port ∷ closed_port past port ∷ []) ≡ None → is_indexed t.schema.keeping ≡ false
+    → DoesBy plain past session request (body.Refused not_indexed) m
+index_stop m past session request port rest plain granted t h is plain_is checked other =
+    let keeping : (rows.schema_or_none past).keeping ≡ t.schema.keeping = ap (λ o. (unwrap_or o rows.no_schema).keeping) (table_made m past t h is) in
+    refused_does m past session request plain not_indexed h
+    (plain_is ∙ port_pass m past port (without_index past ∷ rest) granted t h is checked
+    ∙ stops (not (is_indexed (rows.schema_or_none past).keeping)) not_indexed rest granted (ap (λ k. not (is_indexed k)) keeping ∙ ap not other)) refl
+
+-- ---- a table that was made before
+
+is_some-map : {X Y : Type 0} (f : X → Y) (o : Option X) → is_some (option_map f o) ≡ is_some o
+is_some-map f None = refl
+is_some-map f (Some x) = refl
+
+pub table_again : (m : Machine) (past : List Answered) (session : ℕ) (columns : List ColumnWords) (index : Option (List ℕ)) (limit : Option ℤ)
+    → Holds m past → is_some m.table ≡ true
+    → Does past session (ask.table columns index limit) (body.Refused table_set) m
+table_again m past session columns index limit h is =
+    let some : is_some (ports.schema past) ≡ true = ap is_some (sym h.table.schema) ∙ is_some-map (λ (t : TableData). t.schema) m.table ∙ is in
+    refused_does m past session (ask.table columns index limit) (plain_in past session (ask.table columns index limit)) table_set h
+    (stops (is_some (ports.schema past)) table_set (faulty_schema (schema_of columns index limit) ∷ []) body.Table some) refl
 
 -- ---- want of memory in place of these answers
 

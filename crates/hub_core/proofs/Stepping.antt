@@ -12,6 +12,7 @@ use Rattle.hub_spec.specs.Answers.{plain}
 use Rattle.hub_spec.specs.Histories.{Entry, answered, choice_of, chosen, may_choose, is_allowed, IsLegal}
 use Rattle.hub_spec.specs.Ports.{version_after}
 use Rattle.hub_spec.specs.Runs as runs
+use Rattle.hub_spec.proofs.Folding.{deltas_fold}
 use Rattle.hub_core.specs.Holding.{Holds, Does, plain_in, with_step}
 use Rattle.hub_core.specs.Standing.{Stands, StandsFor, limit_of}
 use Rattle.hub_core.specs.declared.hub.Hub.{Hub}
@@ -51,6 +52,7 @@ full_steps hub h session n request s lt full is =
         allowed = refl;
       };
       stands = rw stays s;
+      folds = deltas_fold _ _;
     }
 
 -- a session's count after one more of its steps
@@ -115,4 +117,5 @@ counted_steps before after h session n request body s lt room limit entries coun
         allowed = allowed;
       };
       stands = let F : Bool → Type 0 = λ b. Stands after (if b then h else e ∷ h) in subst F (sym goes_on) next;
+      folds = deltas_fold _ _;
     }

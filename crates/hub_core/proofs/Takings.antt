@@ -1,10 +1,11 @@
 -- The batches that wait stay such as the table takes.
-use Rattle.std.proofs.Common.{◌≡◌, ℕ, zero, suc, ◌<◌, true, false, List, [], ◌∷◌, length, All, Option, sym, subst}
-use Rattle.std.specs.Prelude.{remove, if◌then◌else◌}
-use Rattle.std.proofs.lemmas.List.Elements.{All-nil, All-cons, All-head, All-tail, All-set, All-get_or, All-drop}
+use Rattle.std.proofs.Common.{◌≡◌, ℕ, zero, suc, ◌<◌, true, false, List, [], ◌∷◌, length, All, Option, Some, subst}
+use Rattle.std.specs.Prelude.{slice_get, remove, if◌then◌else◌}
+use Rattle.std.proofs.lemmas.List.Elements.{All-nil, All-cons, All-head, All-tail, All-push, All-set, All-get_or, All-drop}
 use Rattle.cell_core.specs.Schemas.{SchemaData}
-use Rattle.port_queue.specs.Queues.{QueueData, empty_queue, without_first}
-use Rattle.hub_ports.specs.Ports.{PortsData, port_at, port_of, is_live, settled, with_queue, taken_off, closed, closed_at}
+use Rattle.row_batch.specs.declared.batch.Batch.{Batch}
+use Rattle.port_queue.specs.Queues.{QueueData, empty_queue, with_batch, without_first}
+use Rattle.hub_ports.specs.Ports.{port_at, port_of, is_live, settled, with_queue, put_on, taken_off, closed, closed_at}
 use Rattle.hub_ports.specs.declared.ports.Port.{Port}
 use Rattle.hub_core.specs.Taken.{IsTaken, AreTaken}
 
@@ -13,6 +14,15 @@ AreTakenOn schema p = All (IsTaken schema) p.queue.waiting
 
 at_place : (schema : Option SchemaData) (live : List Port) (place : ℕ) → place < length live → AreTaken schema live → AreTakenOn schema (port_at live place)
 at_place schema live place lt all = All-get_or (AreTakenOn schema) live place (port_of 0 empty_queue) lt all
+
+first_is : (P : Batch → Type 0) (bs : List Batch) (b : Batch) → slice_get bs 0 ≡ Some b → All P bs → P b
+first_is P [] b e all = absurd (cc)
+first_is P (x ∷ xs) b e all = let same : x ≡ b = cc in subst P same (All-head P x xs all)
+
+-- the oldest batch of a port
+pub front_taken : (schema : Option SchemaData) (live : List Port) (place : ℕ) (b : Batch) → place < length live → AreTaken schema live
+    → slice_get (port_at live place).queue.waiting 0 ≡ Some b → IsTaken schema b
+front_taken schema live place b lt all e = first_is (IsTaken schema) (port_at live place).queue.waiting b e (at_place schema live place lt all)
 
 -- ---- one port changed
 
@@ -33,17 +43,17 @@ queue_taken : (schema : Option SchemaData) (live : List Port) (place : ℕ) (q :
     → AreTaken schema (with_queue live place q)
 queue_taken schema live place q all here = All-set (AreTakenOn schema) live place (port_of (port_at live place).number q) here all
 
-off_taken : (schema : Option SchemaData) (live : List Port) (place : ℕ) → place < length live → AreTaken schema live → AreTaken schema (taken_off live place)
+pub put_taken : (schema : Option SchemaData) (live : List Port) (place : ℕ) (b : Batch) → place < length live → AreTaken schema live → IsTaken schema b
+    → AreTaken schema (put_on live place b)
+put_taken schema live place b lt all one =
+    queue_taken schema live place (with_batch (port_at live place).queue b) all
+    (All-push (IsTaken schema) (port_at live place).queue.waiting b (at_place schema live place lt all) one)
+
+pub off_taken : (schema : Option SchemaData) (live : List Port) (place : ℕ) → place < length live → AreTaken schema live → AreTaken schema (taken_off live place)
 off_taken schema live place lt all =
     let q = without_first (port_at live place).queue in
     settled_taken schema (with_queue live place q) place
     (queue_taken schema live place q all (All-drop (IsTaken schema) 1 (port_at live place).queue.waiting (at_place schema live place lt all)))
-
--- the same, for the schema and the ports that come to be
-pub off_taken_by : (before after : Option SchemaData) (kept now : PortsData) (place : ℕ) → place < length kept.live → AreTaken before kept.live → before ≡ after
-    → now ≡ record kept { live = taken_off kept.live place } → AreTaken after now.live
-off_taken_by before after kept now place lt all same off =
-    subst (λ (k : PortsData). AreTaken after k.live) (sym off) (subst (λ s. AreTaken s (taken_off kept.live place)) same (off_taken before kept.live place lt all))
 
 pub closed_taken : (schema : Option SchemaData) (live : List Port) (place : ℕ) → place < length live → AreTaken schema live → AreTaken schema (closed_at live place)
 closed_taken schema live place lt all =

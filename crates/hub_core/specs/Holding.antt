@@ -13,7 +13,7 @@ use Rattle.hub_spec.specs.Histories.{choice_of, chosen, may_choose}
 use Rattle.hub_spec.specs.Ports as ports
 use Rattle.hub_spec.specs.Rows as rows
 use Rattle.hub_core.specs.KeptPorts.{kept_port}
-use Rattle.hub_core.specs.KeptViews.{kept_view}
+use Rattle.hub_core.specs.KeptViews.{AreNumbered, kept_view}
 use Rattle.hub_core.specs.Tables.{schema_in, store_in}
 use Rattle.hub_core.specs.declared.machine.Machine.{Machine}
 use Rattle.hub_core.specs.declared.views.View.{View}
@@ -36,9 +36,11 @@ pub record HoldsPorts (kept : PortsData) (past : List Answered) : Type 0 where
   pub unmade : (port : ℕ) → ports.ports past ≤ port → IsUnmade past port
 
 pub record HoldsViews (kept : List View) (counts : List ℕ) (past : List Answered) : Type 0 where
-  pub views : kept ≡ map kept_view (held.views past)
+  pub views : kept ≡ map (kept_view past) (held.views past)
   pub sessions : length counts ≡ 66
   pub opened : (session : ℕ) → session < 66 → slice_index counts session ≡ held.opened past session
+  pub numbered : AreNumbered (held.opened past) (held.views past)
+  pub bare : ports.schema past ≡ None → held.views past ≡ []
 
 pub record Holds (m : Machine) (past : List Answered) : Type 0 where
   pub table : HoldsTable m.table m.version past

@@ -2,6 +2,7 @@ pub mod Callers
 pub mod Holding
 pub mod KeptPorts
 pub mod KeptViews
+pub mod Refreshing
 pub mod Refusing
 pub mod Rooms
 pub mod Standing

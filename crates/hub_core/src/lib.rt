@@ -2,17 +2,17 @@
 //! request after another.
 //!
 //! It stands on `hub_spec`, whose definitions say what each request is answered after a history of
-//! requests, and keeps its rows in a table of `table_core`. Its callers may rely on this alone: for
-//! every history that a hub stands for, `Hub::step` answers what that history is answered, under a
-//! choice that the answer names, and the hub then stands for the history with that step (`StandsFor`
-//! of `specs/Standing.antt`, `Steps` of `hub_spec`). Crates above know of a hub's state nothing else.
-//! `LocalCaller` is a hub as a `Caller`.
+//! requests. Its callers may rely on this alone: for every history that a hub stands for,
+//! `Hub::step` answers what that history is answered, under a choice that the answer names, and the
+//! hub then stands for the history with that step (`StandsFor` of `specs/Standing.antt`, `Steps` of
+//! `hub_spec`). Crates above know of a hub's state nothing else. `LocalCaller` is a hub as a `Caller`.
 #![tactic(auto)]
 
 mod hub;
 mod local;
 mod machine;
 mod port_steps;
+mod refresh;
 mod refused;
 mod room;
 mod told;

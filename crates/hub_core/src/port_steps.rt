@@ -16,6 +16,7 @@ ghost use Rattle.hub_core.specs.Tables.{schema_in};
 ghost use Rattle.hub_core.specs.Taken.{IsTaken};
 
 use crate::machine::Machine;
+use crate::refresh::{applied, refresh_views};
 use crate::refused;
 use cell_core::{Keeping, Raw, Steps, Text};
 use csv_rows::csv_patches;
@@ -199,7 +200,7 @@ impl Machine {
     }
 
     /// Applies the oldest batch that waits on a port.
-    pub fn apply(&mut self, port: u64) -> Result<Body, Refusal>
+    pub fn apply<L: Ledger>(&mut self, port: u64, steps: &mut Steps<L>) -> Result<Body, Refusal>
         ensures { (past : List Answered) → Holds self.old past → length past < 2 ^ 53
             → (session : ℕ) → Does past session (ask.apply port) (body_in result) self.new }
     {
@@ -216,6 +217,9 @@ impl Machine {
         let Some(batch) = queue.front() else {
             return Err(refused::empty());
         };
+        let Ok(mut lost) = Vec::with_capacity(self.alloc, self.views.len()) else {
+            return Err(refused::memory());
+        };
         let Ok(prepared) = table.prepare(self.alloc, batch) else {
             return Err(refused::memory());
         };
@@ -223,6 +227,14 @@ impl Machine {
         drop(table.apply(prepared));
         drop(self.ports.take_front(place));
         self.version = self.version.saturating_add(1);
-        Ok(Body::Applied { port, seq })
+        refresh_views(
+            self.alloc,
+            table,
+            self.version,
+            &mut self.views,
+            &mut lost,
+            steps,
+        );
+        Ok(applied(port, seq, lost))
     }
 }

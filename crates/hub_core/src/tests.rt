@@ -2,6 +2,7 @@ ghost use Rattle.std.specs.Prelude.{◌≤◌};
 
 use crate::{Hub, LocalCaller};
 use cell_core::{ColumnWords, Listed, Raw, RawList, RawMap, Text};
+use delta_core::{Held, Mark, fold};
 use frame_types::{Body, FrameCause, Reply, Request};
 use hub_spec::Caller;
 use sqlite_items::Items;
@@ -183,4 +184,83 @@ fn a_full_history_stays(rt: HostRuntime) -> Result<(), Fail> {
     let full = "3 0 Refused(Refusal { code: 11, cause: HistoryFull, at: One(2) })";
     says(&rt, alloc, &mut caller, 0, Request::Apply { port: 0 }, full)?;
     says(&rt, alloc, &mut caller, 0, Request::Apply { port: 0 }, full)
+}
+
+/// What the opening of a view shows, with its mark.
+fn held(reply: Reply) -> Option<Held> {
+    let Reply {
+        n: _,
+        version,
+        body,
+    } = reply;
+    match body {
+        Body::Opened {
+            edit,
+            shown,
+            view: _,
+        } => Some(Held {
+            shown,
+            mark: Mark { version, edit },
+        }),
+        _ => None,
+    }
+}
+
+/// The held rows with the reply's delta folded in.
+fn folded(alloc: Global, held: Held, reply: &Reply) -> Option<Held> {
+    match &reply.body {
+        Body::Delta { delta, view: _ } => fold(alloc, held, delta).ok(),
+        _ => None,
+    }
+}
+
+fn rows_text(alloc: Global, shown: &Shown) -> Result<String, Fail> {
+    let mut text = String::new(alloc);
+    put_rows(alloc, &mut text, shown)?;
+    Ok(text)
+}
+
+#[test]
+fn a_folded_delta_shows_the_rows_that_are_asked(rt: HostRuntime) -> Result<(), Fail> {
+    let alloc = rt.alloc();
+    let mut caller = LocalCaller::make(Hub::make(alloc, 100)?);
+    drop(caller.call(0, table(alloc, &["k", "v"])?));
+    drop(caller.call(0, Request::Port));
+    let first = row(alloc, &[("k", 1), ("v", 5)])?;
+    let second = row(alloc, &[("k", 2), ("v", 7)])?;
+    drop(caller.call(0, update(alloc, 0, first, second)?));
+    drop(caller.call(0, Request::Apply { port: 0 }));
+    let opened = held(caller.call(0, open(alloc)));
+    let changed = row(alloc, &[("k", 2), ("v", 8)])?;
+    let added = row(alloc, &[("k", 0), ("v", 9)])?;
+    drop(caller.call(0, update(alloc, 0, changed, added)?));
+    drop(caller.call(0, Request::Apply { port: 0 }));
+    let taken = caller.call(
+        0,
+        Request::Take {
+            view: 0,
+            wait: false,
+        },
+    );
+    let now = opened.and_then(|held| folded(alloc, held, &taken));
+    let asked = caller.call(
+        0,
+        Request::Rows {
+            view: 0,
+            from: 0,
+            to: 9,
+        },
+    );
+    same_rows(&rt, alloc, now, &asked)
+}
+
+fn same_rows(rt: &impl Abort, alloc: Global, now: Option<Held>, asked: &Reply) -> Result<(), Fail> {
+    let (Some(now), Body::Rows { shown, .. }) = (now, &asked.body) else {
+        assert!(rt; false, "no rows");
+        return Ok(());
+    };
+    let want = rows_text(alloc, shown)?;
+    assert_eq!(rt; rows_text(alloc, &now.shown)?.as_str(), want.as_str());
+    assert_eq!(rt; now.mark.version, asked.version);
+    Ok(())
 }

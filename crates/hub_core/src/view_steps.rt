@@ -1,4 +1,4 @@
-ghost use Rattle.std.specs.Prelude.{◌≡◌, ℕ, List, ◌<◌, ◌≤◌, ◌^◌, length};
+ghost use Rattle.std.specs.Prelude.{◌≡◌, ℕ, Bool, List, ◌<◌, ◌≤◌, ◌^◌, length};
 ghost use Rattle.cell_core.specs.RawData.{raw_map};
 ghost use Rattle.cell_core.specs.RawViews.{raw_view, map_view};
 ghost use Rattle.frame_types.specs.Asks as ask;
@@ -10,8 +10,11 @@ ghost use Rattle.hub_core.specs.Refusing.{body_in};
 use crate::machine::Machine;
 use crate::refused;
 use crate::told::{column_words, index_name, limit_of};
-use crate::views::{MAX_VIEWS, View, count_views, drop_view, drop_views, find_view};
+use crate::views::{
+    LiveView, MAX_VIEWS, View, ViewState, count_views, drop_view, drop_views, find_view, rebase,
+};
 use cell_core::{Raw, RawMap, Steps};
+use delta_core::Mark;
 use frame_types::{Body, Refusal};
 use plain_view::{show, show_window};
 use std::sync::ledger::Ledger;
@@ -40,13 +43,20 @@ impl Machine {
             return Err(refused::memory());
         };
         let edit = 0;
+        let base = Mark {
+            version: self.version,
+            edit,
+        };
+        let Ok(live) = LiveView::make(self.alloc, &shown, base, bound) else {
+            return Err(refused::memory());
+        };
         let number = self.opened[session as usize];
         let view = View {
             session,
             number,
             bound,
             edit,
-            lost: None,
+            state: ViewState::Live(live),
         };
         if self.views.push(view).is_err() {
             return Err(refused::memory());
@@ -57,6 +67,31 @@ impl Machine {
             shown,
             view: number,
         })
+    }
+
+    /// Tells what changed in a view since its base, or all that it shows, where more keys were touched than
+    /// its bound. The view's base is then this step.
+    pub fn take(&mut self, session: u32, view: u64) -> Result<Body, Refusal>
+        ensures { (past : List Answered) → Holds self.old past → length past < 2 ^ 53
+            → (wait : Bool) → Does past session (ask.take view wait) (body_in result) self.new }
+    {
+        let _table = self.table()?;
+        let Some(held) = find_view(self.views.as_slice(), session, view) else {
+            return Err(refused::no_view());
+        };
+        let live = match &held.state {
+            ViewState::Live(live) => live,
+            ViewState::Lost(version) => return Err(refused::view_lost(*version)),
+        };
+        let mark = Mark {
+            version: self.version,
+            edit: held.edit,
+        };
+        let Ok(answer) = live.told(self.alloc, held.bound, view, mark) else {
+            return Err(refused::memory());
+        };
+        rebase(&mut self.views, session, view, mark);
+        Ok(answer)
     }
 
     /// Shows the rows of a view at positions `from` up to and without `to`.
@@ -75,7 +110,7 @@ impl Machine {
         let Some(held) = find_view(self.views.as_slice(), session, view) else {
             return Err(refused::no_view());
         };
-        if let Some(version) = held.lost {
+        if let ViewState::Lost(version) = held.state {
             return Err(refused::view_lost(version));
         }
         if to < from {

@@ -1,3 +1,4 @@
 pub mod Ports
 pub mod Said
 pub mod Worked
+pub mod Folding

@@ -95,7 +95,7 @@ kept_applied past at port true is some kept =
     rw (eqb-true at port is) (kept_applied_here port port (history.taken past port) (history.applied past) (history.waiting past port) (history.accepted past port)
     (rw (eqb-true at port is) at is) refl (rw (eqb-true at port is) at some) kept)
 
-kept_step : (past : List Answered) (session n version : ℕ) (request : Ask) (answer : Body) (port : ℕ) → Says past answer → KeptIn past port
+kept_step : (past : List Answered) (session n version : ℕ) (request : Ask) (answer : Body) (port : ℕ) → Says past session request answer → KeptIn past port
     → KeptIn (record { session = session; request = request; reply = record { n = n; version = version; body = answer } } ∷ past) port
 kept_step past session n version request (body.Queued at seq) port says kept =
     kept_queued (eqb at port) (batch_asked (history.schema past) request) port (history.taken past port) (history.applied past) (history.accepted past port) kept

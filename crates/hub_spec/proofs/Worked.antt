@@ -19,11 +19,14 @@ use Rattle.row_batch.specs.declared.refused.BatchRefused.{BatchRefused}
 use Rattle.row_batch.specs.declared.refused.RowCause.TheVariants as row
 use Rattle.cell_core.specs.declared.schema.Numbers.TheVariants.{Zero, One, Two}
 use Rattle.cell_core.specs.declared.schema.SchemaCause.TheVariants as schema
+use Rattle.view_types.specs.declared.key.ViewKey.{ViewKey}
 use Rattle.view_types.specs.declared.key.ViewKey.TheVariants.{Row}
 use Rattle.view_types.specs.declared.shown.HeaderColumn.{HeaderColumn}
 use Rattle.view_types.specs.declared.shown.Shown.{Shown}
 use Rattle.view_types.specs.declared.shown.ShownRow.{ShownRow}
 use Rattle.view_types.specs.declared.shown.ShownType.TheVariants.{Integer}
+use Rattle.delta_core.specs.declared.delta.Mark.{Mark}
+use Rattle.delta_core.specs.declared.delta.Put.{Put}
 use Rattle.plain_view.specs.Flat.{flat_view}
 use Rattle.frame_types.specs.Asks.{Ask}
 use Rattle.frame_types.specs.Asks as ask
@@ -124,6 +127,112 @@ first_applied = refl
 pub first_opened : answer roomy with_rows (asks open_all) ≡ reply 5 1 (body.Opened 0 (shows (shown_row (pos 1) (pos 7) ∷ shown_row (pos 2) (pos 5) ∷ [])) 0)
 unfolding value_order
 first_opened = refl
+
+-- ---- what a take answers
+
+abbrev take : ℕ → Ask
+take view = ask.take view false
+
+abbrev no_value : ℤ → ShownRow
+no_value k = record { key = Row (Int k); mark = false; cells = (codes "k", Whole k) ∷ [] }
+
+abbrev marks : ℕ → Mark
+marks version = record { version = version; edit = 0 }
+
+-- a delta of view 0 from one version to another that sends no header
+abbrev delta : ℕ → ℕ → List ViewKey → List Put → Body
+delta start end removed puts = body.Delta (record { «from» = marks start; to = marks end; removed = removed; puts = puts; header = None }) 0
+
+abbrev put : ℕ → ShownRow → Put
+put position row = record { position = position; row = row }
+
+-- nothing happened since the opening
+pub taken_at_once : answer roomy with_view (asks (take 0)) ≡ reply 6 1 (delta 1 1 [] [])
+unfolding value_order
+taken_at_once = refl
+
+-- a row that names its key alone changes nothing, and so touches nothing
+abbrev with_same_row : List Entry
+with_same_row = asks (ask.apply 0) ∷ asks (update (one_row (only_k (pos 1)))) ∷ with_view
+
+pub taken_unchanged : answer roomy with_same_row (asks (take 0)) ≡ reply 8 2 (delta 1 2 [] [])
+unfolding value_order
+taken_unchanged = refl
+
+-- null is set, and the value is left out
+abbrev k_without_v : ℤ → RawData
+k_without_v k = raw_map (raw_member (codes "k") (raw_int k) (raw_member (codes "v") raw_null no_raw_members))
+
+abbrev with_null : List Entry
+with_null = asks (ask.apply 0) ∷ asks (update (one_row (k_without_v (pos 1)))) ∷ asks (take 0) ∷ with_same_row
+
+pub taken_changed : answer roomy with_null (asks (take 0)) ≡ reply 11 3 (delta 2 3 [] (put 0 (no_value (pos 1)) ∷ []))
+unfolding value_order
+taken_changed = refl
+
+-- rows that are gone are removed by key, ascending
+abbrev with_rows_removed : List Entry
+with_rows_removed = asks (ask.apply 0) ∷ asks (ask.remove 0 (raw_list (raw_item (raw_int (pos 2)) (raw_item (raw_int (pos 1)) no_raw_items)))) ∷ with_view
+
+pub taken_removed : answer roomy with_rows_removed (asks (take 0)) ≡ reply 8 2 (delta 1 2 (Row (Int (pos 1)) ∷ Row (Int (pos 2)) ∷ []) [])
+unfolding value_order
+taken_removed = refl
+
+-- a row that came and went between two takes is neither put nor removed
+abbrev with_empty_view : List Entry
+with_empty_view = asks open_all ∷ with_port
+
+abbrev with_visitor : List Entry
+with_visitor = asks (ask.apply 0) ∷ asks (ask.remove 0 (raw_list (raw_item (raw_int (pos 1)) no_raw_items))) ∷ asks (ask.apply 0)
+    ∷ asks (update (one_row (k_and_v (pos 1) (pos 1)))) ∷ with_empty_view
+
+pub taken_after_visit : answer roomy with_visitor (asks (take 0)) ≡ reply 8 2 (delta 0 2 [] [])
+unfolding value_order
+taken_after_visit = refl
+
+-- a row that changed and changed back is put again
+abbrev with_change : ℤ → List Entry → List Entry
+with_change v before = asks (ask.apply 0) ∷ asks (update (one_row (k_and_v (pos 1) v))) ∷ before
+
+pub taken_changed_back : answer roomy (with_change (pos 7) (with_change (pos 2) with_view)) (asks (take 0))
+    ≡ reply 10 3 (delta 1 3 [] (put 0 (shown_row (pos 1) (pos 7)) ∷ []))
+unfolding value_order
+taken_changed_back = refl
+
+-- one dirty key is more than the bound 0, and not more than the bound 1
+abbrev open_bound : ℕ → Ask
+open_bound bound = ask.open_view (raw_map no_raw_members) bound
+
+abbrev with_bounds : List Entry
+with_bounds = with_change (pos 1) (asks (open_bound 1) ∷ asks (open_bound 0) ∷ with_port)
+
+pub taken_over_bound : answer roomy with_bounds (asks (take 0)) ≡ reply 7 1 (body.Resync 0 0 (shows (shown_row (pos 1) (pos 1) ∷ [])) 0)
+unfolding value_order
+taken_over_bound = refl
+
+pub taken_within_bound : answer roomy (asks (take 0) ∷ with_bounds) (asks (take 1))
+    ≡ reply 8 1 (body.Delta (record { «from» = marks 0; to = marks 1; removed = []; puts = put 0 (shown_row (pos 1) (pos 1)) ∷ []; header = None }) 1)
+unfolding value_order
+taken_within_bound = refl
+
+-- `rows` does not move the base
+pub taken_after_rows : answer roomy (asks (ask.rows 0 0 9) ∷ with_change (pos 8) with_view) (asks (take 0))
+    ≡ reply 9 2 (delta 1 2 [] (put 0 (shown_row (pos 1) (pos 8)) ∷ []))
+unfolding value_order
+taken_after_rows = refl
+
+pub taken_by_another : answer roomy with_view (by 1 (take 0) plenty) ≡ reply 1 1 (body.Refused no_view)
+taken_by_another = refl
+
+pub taken_when_lost : answer roomy (by 0 (ask.apply 0) (losing ((0, 0) ∷ [])) ∷ asks (update (one_row (k_and_v (pos 1) (pos 8)))) ∷ with_view) (asks (take 0))
+    ≡ reply 8 2 (body.Refused (view_lost 2))
+taken_when_lost = refl
+
+pub taken_when_closed : answer roomy (asks (ask.close 0) ∷ with_view) (asks (take 0)) ≡ reply 7 1 (body.Refused no_view)
+taken_when_closed = refl
+
+pub taken_without_table : answer roomy [] (asks (take 0)) ≡ reply 1 0 (body.Refused no_table)
+taken_without_table = refl
 
 -- ---- the refusals
 

@@ -1,6 +1,6 @@
 -- What a request is answered where memory is plenty: the first refusal whose condition holds, and
 -- else what is granted.
-use Rattle.std.specs.Prelude.{ℕ, ◌+◌, ◌==◌, nat_lt, nat_le, List, [], ◌∷◌, ◌++◌, length, map, slice_get, Bool, true, false, not, Option, Some, None, is_some, is_none, unwrap_or, option_map, option_and_then, Result, Ok, Err}
+use Rattle.std.specs.Prelude.{ℕ, ◌+◌, ◌==◌, nat_lt, nat_le, List, [], ◌∷◌, ◌++◌, length, map, slice_get, Bool, true, false, not, Option, Some, None, is_some, is_none, unwrap_or, option_map, option_and_then, Result, Ok, Err, if◌then◌else◌}
 use Rattle.plain_data.specs.Faults.{first_fault}
 use Rattle.cell_core.specs.RawData.{RawData, raw_map, no_raw_members}
 use Rattle.cell_core.specs.Schemas.{SchemaData, schema_of, type_name}
@@ -22,6 +22,7 @@ use Rattle.frame_types.specs.declared.reply.Refusal.{Refusal}
 use Rattle.plain_view.specs.Flat.{window}
 use Rattle.view_types.specs.declared.shown.Shown.{Shown}
 use Rattle.hub_spec.specs.Answered.{Answered}
+use Rattle.hub_spec.specs.Bases.{delta_in, dirty}
 use Rattle.hub_spec.specs.HeldViews.{HeldView, views, held, held_by, opened, opened_view, shown}
 use Rattle.hub_spec.specs.Ports.{schema as schema_made, ports, has_port, is_closed, used_ports, accepted, taken, waiting, all_waiting}
 use Rattle.hub_spec.specs.Reading.{read_batch, batch_asked}
@@ -137,6 +138,11 @@ refusals past session (ask.open_view plan bound) =
     ∷ unbuilt_plan plan
     ∷ (nat_le 16 (length (views past)), too_many_views)
     ∷ []
+refusals past session (ask.take view wait) =
+    without_table past
+    ∷ without_view past session view
+    ∷ lost_view (held past session view)
+    ∷ []
 refusals past session (ask.rows view first end) =
     without_table past
     ∷ without_view past session view
@@ -150,6 +156,13 @@ refusals past session (ask.close view) =
 refusals past session (ask.unread why) = (true, bad_frame (frame_cause why)) ∷ []
 
 -- ---- what is granted
+
+-- the delta of a view where no more keys are dirty than its bound, and else all that it shows
+abbrev pub taken_of : List Answered → ℕ → ℕ → Option HeldView → Body
+taken_of past session view None = body.Refused no_view
+taken_of past session view (Some v) =
+    if nat_le (length (dirty past session view)) v.bound then body.Delta (delta_in past session view) view
+    else body.Resync v.bound v.edit (shown past v) view
 
 abbrev pub window_of : Option HeldView → (HeldView → Shown) → ℕ → ℕ → ℕ → Body
 window_of None shows view first end = body.Refused no_view
@@ -190,6 +203,7 @@ granted past session (ask.close_port port) = body.PortClosed port
 granted past session (ask.apply port) = body.Applied port (taken past port + 1)
 granted past session (ask.open_view plan bound) =
     body.Opened 0 (shown past (opened_view session (opened past session) plan bound)) (opened past session)
+granted past session (ask.take view wait) = taken_of past session view (held past session view)
 granted past session (ask.rows view first end) = window_of (held past session view) (shown past) view first end
 granted past session (ask.close view) = body.Closed view
 granted past session (ask.unread why) = body.Refused (bad_frame (frame_cause why))

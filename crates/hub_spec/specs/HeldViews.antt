@@ -25,9 +25,9 @@ pub record HeldView : Type 0 where
   -- the plan as it was asked for
   pub plan : RawData
   pub opening : Opening
-  -- the most changed rows that a delta may have
+  -- the most keys that may be touched since the view's base before all that it shows is sent anew
   pub bound : ℕ
-  -- how often the plan or the opening was changed
+  -- how many edits of its plan or its opening were answered
   pub edit : ℕ
   -- the version at which an update of the view found no memory
   pub lost : Option ℕ

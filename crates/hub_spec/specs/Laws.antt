@@ -6,8 +6,10 @@ use Rattle.frame_types.specs.declared.reply.Refusal.{Refusal}
 use Rattle.row_batch.specs.Batches.{empty_store, put_batch}
 use Rattle.row_batch.specs.declared.batch.Batch.{Batch}
 use Rattle.hub_spec.specs.Answered.{Answered, entries_of}
+use Rattle.hub_spec.specs.Bases.{base, folded_in}
 use Rattle.hub_spec.specs.Histories.{Entry, answered}
 use Rattle.hub_spec.specs.Ports.{Applied, accepted, taken, waiting, applied}
+use Rattle.hub_spec.specs.Bases as bases
 use Rattle.hub_spec.specs.HeldViews as held
 use Rattle.hub_spec.specs.Ports as history
 use Rattle.hub_spec.specs.Rows as table
@@ -39,6 +41,14 @@ abbrev pub RowsAreApplied : Type 0
 RowsAreApplied = (past : List Answered) →
     rows past ≡ (fold (put_batch (schema_or_none past)) empty_store (map (λ a. a.batch) (applied past))).pairs
 
+-- of each view, what a client holds that folds each delta of it into its opening or its last resynchronisation is
+-- what the view showed at its base, with the mark of the base, and no delta is refused
+abbrev pub Folds : ℕ → List Entry → Type 0
+Folds limit h = (session number : ℕ) → folded_in (answered limit h) session number ≡ base (answered limit h) session number
+
+abbrev pub DeltasFold : Type 0
+DeltasFold = (limit : ℕ) (h : List Entry) → Folds limit h
+
 -- a step that was refused leaves all as it was, but that the session took one step more
 pub record IsUnchanged (session : ℕ) (past after : List Answered) : Type 0 where
   pub schema : history.schema after ≡ history.schema past
@@ -52,6 +62,10 @@ pub record IsUnchanged (session : ℕ) (past after : List Answered) : Type 0 whe
   pub store : table.store after ≡ table.store past
   pub views : held.views after ≡ held.views past
   pub opened : (asking : ℕ) → held.opened after asking ≡ held.opened past asking
+  pub base : (asking number : ℕ) → bases.base after asking number ≡ bases.base past asking number
+  pub dirty : (asking number : ℕ) → bases.dirty after asking number ≡ bases.dirty past asking number
+  pub head_dirty : (asking number : ℕ) → bases.head_dirty after asking number ≡ bases.head_dirty past asking number
+  pub folded : (asking number : ℕ) → bases.folded_in after asking number ≡ bases.folded_in past asking number
   pub own_count : entries_of after session ≡ entries_of past session + 1
   pub other_counts : (other : ℕ) → (session == other) ≡ false → entries_of after other ≡ entries_of past other
 

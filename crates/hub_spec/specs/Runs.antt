@@ -3,6 +3,7 @@ use Rattle.std.specs.Prelude.{◌≡◌, ℕ, true, List, [], ◌∷◌}
 use Rattle.frame_types.specs.Asks.{Ask}
 use Rattle.frame_types.specs.declared.reply.Reply.{Reply}
 use Rattle.hub_spec.specs.Histories.{Entry, answer, answered, choice_of, is_allowed, told, followed}
+use Rattle.hub_spec.specs.Laws.{Folds}
 
 -- the reply is the answer computed from scratch after the history, under a choice that it names
 -- and that is allowed there
@@ -17,7 +18,8 @@ Ran limit h (q ∷ asked) (r ∷ replies) after = IsAnswer limit h q.0 q.1 r × 
 Ran limit h [] (r ∷ replies) after = ⊥
 Ran limit h (q ∷ asked) [] after = ⊥
 
--- the reply is the answer after the history, and what follows has the property
+-- the reply is the answer after the history, what follows has the property, and in it deltas fold
 pub record Steps (limit : ℕ) (h : List Entry) (session : ℕ) (request : Ask) (reply : Reply) (Stands : List Entry → Type 0) : Type 0 where
   pub answer : IsAnswer limit h session request reply
   pub stands : Stands (followed limit h (told session request reply))
+  pub folds : Folds limit (followed limit h (told session request reply))

@@ -97,7 +97,7 @@ not_tied Equal h = absurd (h refl)
 not_tied Greater h = refl
 
 -- rows under different keys have different places
-places_differ : (pairs : List Pair) → AreDistinct (map (λ (p : Pair). p.key) pairs) → IsDistinct (eq_by_cmp by_place) pairs
+pub places_differ : (pairs : List Pair) → AreDistinct (map (λ (p : Pair). p.key) pairs) → IsDistinct (eq_by_cmp by_place) pairs
 places_differ [] h = IsDistinct-nil
 places_differ (p ∷ pairs) h =
     IsDistinct-cons (eq_by_cmp by_place) p pairs

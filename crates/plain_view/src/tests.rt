@@ -1,7 +1,8 @@
 ghost use Rattle.std.specs.Prelude.{◌≡◌, ◌<◌, IfOk};
 
-use crate::{show, show_window};
+use crate::{ShownByKey, show, show_window, touched};
 use cell_core::{Cell, ColumnWords, Listed, Schema, Steps, Text};
+use delta_core::{ShownNow, Touched};
 use row_batch::{Batch, Patch, PatchCell, Patches, check, is_shaped};
 use std::alloc::Global;
 use std::marker::Brand;
@@ -210,5 +211,76 @@ fn window_of_no_rows(rt: HostRuntime) -> Result<(), Fail> {
     let table = integers(alloc, &["v"], None, None)?;
     let window = window(alloc, &table, 0, 9)?;
     assert!(rt; has_keys(&window, 0, 0, 0));
+    Ok(())
+}
+
+/// What a view shows, by key, of a table with these rows of a key and a value in a column of this name.
+fn by_key(
+    rt: &impl Abort,
+    alloc: Global,
+    name: &str,
+    rows: &[(i64, i64)],
+) -> Result<ShownByKey, Fail> {
+    let mut table = integers(alloc, &["k", name], Some("k"), None)?;
+    let mut patches = Patches::new(alloc);
+    for (key, value) in rows {
+        patches.push(patch(alloc, &[Cell::Int(*key), Cell::Int(*value)])?)?;
+    }
+    put(rt, alloc, &mut table, &Batch::Update(patches))?;
+    Ok(ShownByKey::of(alloc, shown(alloc, &table)?)?)
+}
+
+#[test]
+fn rows_by_key(rt: HostRuntime) -> Result<(), Fail> {
+    let alloc = rt.alloc();
+    let view = by_key(&rt, alloc, "v", &[(3, 30), (1, 10), (2, 20)])?;
+    for (number, position) in [(1, Some(0)), (2, Some(1)), (3, Some(2)), (4, None)] {
+        let key = ViewKey::Row(Cell::Int(number));
+        assert!(rt; view.position(&key) == position);
+        match view.row(alloc, &key)? {
+            Some(row) => assert!(rt; row.key == key && row.cells.len() == 2),
+            None => assert!(rt; position.is_none()),
+        }
+    }
+    assert_eq!(rt; view.header(alloc)?.len(), 2);
+    assert_eq!(rt; view.shown().rows.as_slice().len(), 3);
+    Ok(())
+}
+
+/// Whether just these keys are touched, each with whether it was shown before.
+fn has_touched(touched: &Touched, want: &[(i64, bool)]) -> bool {
+    let mut left = want.iter();
+    for (key, was_shown) in touched.keys.entries() {
+        match left.next() {
+            Some((number, shown))
+                if *key == ViewKey::Row(Cell::Int(*number)) && *was_shown == *shown => {}
+            _ => return false,
+        }
+    }
+    left.next().is_none()
+}
+
+/// Whether a step from three rows to these, with the values in a column of this name, touches just these keys.
+fn step_touches(
+    rt: &impl Abort,
+    alloc: Global,
+    name: &str,
+    rows: &[(i64, i64)],
+    want: &[(i64, bool)],
+) -> Result<bool, Fail> {
+    let before = by_key(rt, alloc, "v", &[(1, 7), (2, 5), (3, 3)])?;
+    let after = by_key(rt, alloc, name, rows)?;
+    let touched = touched(alloc, &before, &after)?;
+    Ok(has_touched(&touched, want) && touched.header == (name != "v"))
+}
+
+#[test]
+fn what_a_step_touches(rt: HostRuntime) -> Result<(), Fail> {
+    let alloc = rt.alloc();
+    let same = [(3, 3), (1, 7), (2, 5)];
+    assert!(rt; step_touches(&rt, alloc, "v", &same, &[])?);
+    let other = [(1, 7), (2, 6), (4, 4)];
+    assert!(rt; step_touches(&rt, alloc, "v", &other, &[(2, true), (3, true), (4, false)])?);
+    assert!(rt; step_touches(&rt, alloc, "w", &same, &[(1, true), (2, true), (3, true)])?);
     Ok(())
 }

@@ -98,6 +98,7 @@ none_answered = record {
   lines_are = refl;
   written = refl;
   ran = refl;
+  folds = λ session number. refl;
   next = refl;
 }
 

@@ -197,6 +197,115 @@ fn batches_of_every_kind_are_queued_and_applied(rt: HostRuntime) -> Result<(), F
 }
 
 #[test]
+fn a_take_tells_what_changed_since_the_base(rt: HostRuntime) -> Result<(), Fail> {
+    let cases = [
+        (
+            "{\"op\":\"table\",\"columns\":[[\"k\",\"integer\"],[\"v\",\"integer\"]],\"index\":\"k\"}\n{\"op\":\"port\"}\n{\"op\":\"update\",\"port\":0,\"rows\":[{\"k\":2,\"v\":5},{\"k\":1,\"v\":7}]}\n{\"op\":\"apply\",\"port\":0}\n{\"op\":\"open\",\"plan\":{},\"bound\":10}\n{\"op\":\"update\",\"port\":0,\"rows\":[{\"k\":1}]}\n{\"op\":\"apply\",\"port\":0}\n{\"op\":\"take\",\"view\":0}\n",
+            "\n{\"edit\":0,\"from\":[1,0],\"is\":\"delta\",\"n\":8,\"put\":[],\"removed\":[],\"version\":2,\"view\":0}\n",
+        ),
+        (
+            "{\"op\":\"table\",\"columns\":[[\"k\",\"integer\"],[\"v\",\"integer\"]],\"index\":\"k\"}\n{\"op\":\"port\"}\n{\"op\":\"update\",\"port\":0,\"rows\":[{\"k\":2,\"v\":5},{\"k\":1,\"v\":7}]}\n{\"op\":\"apply\",\"port\":0}\n{\"op\":\"open\",\"plan\":{},\"bound\":10}\n{\"op\":\"update\",\"port\":0,\"rows\":[{\"k\":1}]}\n{\"op\":\"apply\",\"port\":0}\n{\"op\":\"take\",\"view\":0}\n{\"op\":\"update\",\"port\":0,\"rows\":[{\"k\":1,\"v\":null}]}\n{\"op\":\"apply\",\"port\":0}\n{\"op\":\"take\",\"view\":0}\n",
+            "\n{\"edit\":0,\"from\":[2,0],\"is\":\"delta\",\"n\":11,\"put\":[[0,[[\"r\",1],{\"k\":1}]]],\"removed\":[],\"version\":3,\"view\":0}\n",
+        ),
+        (
+            "{\"op\":\"table\",\"columns\":[[\"k\",\"integer\"],[\"v\",\"integer\"]],\"index\":\"k\"}\n{\"op\":\"port\"}\n{\"op\":\"update\",\"port\":0,\"rows\":[{\"k\":2,\"v\":5},{\"k\":1,\"v\":7}]}\n{\"op\":\"apply\",\"port\":0}\n{\"op\":\"open\",\"plan\":{},\"bound\":10}\n{\"op\":\"remove\",\"port\":0,\"keys\":[9]}\n{\"op\":\"apply\",\"port\":0}\n{\"op\":\"take\",\"view\":0}\n",
+            "\n{\"edit\":0,\"from\":[1,0],\"is\":\"delta\",\"n\":8,\"put\":[],\"removed\":[],\"version\":2,\"view\":0}\n",
+        ),
+        (
+            "{\"op\":\"table\",\"columns\":[[\"k\",\"integer\"],[\"v\",\"integer\"]],\"index\":\"k\"}\n{\"op\":\"port\"}\n{\"op\":\"open\",\"plan\":{},\"bound\":10}\n{\"op\":\"update\",\"port\":0,\"rows\":[{\"k\":1,\"v\":1}]}\n{\"op\":\"apply\",\"port\":0}\n{\"op\":\"remove\",\"port\":0,\"keys\":[1]}\n{\"op\":\"apply\",\"port\":0}\n{\"op\":\"take\",\"view\":0}\n",
+            "\n{\"edit\":0,\"from\":[0,0],\"is\":\"delta\",\"n\":8,\"put\":[],\"removed\":[],\"version\":2,\"view\":0}\n",
+        ),
+        (
+            "{\"op\":\"table\",\"columns\":[[\"k\",\"integer\"],[\"v\",\"integer\"]],\"index\":\"k\"}\n{\"op\":\"port\"}\n{\"op\":\"open\",\"plan\":{},\"bound\":10}\n{\"op\":\"update\",\"port\":0,\"rows\":[{\"k\":1,\"v\":1}]}\n{\"op\":\"apply\",\"port\":0}\n{\"op\":\"take\",\"view\":0}\n{\"op\":\"update\",\"port\":0,\"rows\":[{\"k\":1,\"v\":2}]}\n{\"op\":\"apply\",\"port\":0}\n{\"op\":\"update\",\"port\":0,\"rows\":[{\"k\":1,\"v\":1}]}\n{\"op\":\"apply\",\"port\":0}\n{\"op\":\"take\",\"view\":0}\n",
+            "\n{\"edit\":0,\"from\":[1,0],\"is\":\"delta\",\"n\":11,\"put\":[[0,[[\"r\",1],{\"k\":1,\"v\":1}]]],\"removed\":[],\"version\":3,\"view\":0}\n",
+        ),
+    ];
+    for (lines, want) in cases {
+        assert!(rt; ends_with(rt.alloc(), lines, want)?, "{lines}");
+    }
+    Ok(())
+}
+
+#[test]
+fn a_view_past_its_bound_is_sent_anew(rt: HostRuntime) -> Result<(), Fail> {
+    let cases = [
+        (
+            "{\"op\":\"table\",\"columns\":[[\"k\",\"integer\"],[\"v\",\"integer\"]],\"index\":\"k\"}\n{\"op\":\"port\"}\n{\"op\":\"open\",\"plan\":{},\"bound\":0}\n{\"op\":\"open\",\"plan\":{},\"bound\":1}\n{\"op\":\"update\",\"port\":0,\"rows\":[{\"k\":1,\"v\":1}]}\n{\"op\":\"apply\",\"port\":0}\n{\"op\":\"take\",\"view\":0}\n",
+            "\n{\"bound\":0,\"edit\":0,\"header\":[[\"k\",\"integer\"],[\"v\",\"integer\"]],\"is\":\"resync\",\"n\":7,\"rows\":[[[\"r\",1],{\"k\":1,\"v\":1}]],\"version\":1,\"view\":0}\n",
+        ),
+        (
+            "{\"op\":\"table\",\"columns\":[[\"k\",\"integer\"],[\"v\",\"integer\"]],\"index\":\"k\"}\n{\"op\":\"port\"}\n{\"op\":\"open\",\"plan\":{},\"bound\":0}\n{\"op\":\"open\",\"plan\":{},\"bound\":1}\n{\"op\":\"update\",\"port\":0,\"rows\":[{\"k\":1,\"v\":1}]}\n{\"op\":\"apply\",\"port\":0}\n{\"op\":\"take\",\"view\":0}\n{\"op\":\"take\",\"view\":1,\"wait\":true}\n",
+            "\n{\"edit\":0,\"from\":[0,0],\"is\":\"delta\",\"n\":8,\"put\":[[0,[[\"r\",1],{\"k\":1,\"v\":1}]]],\"removed\":[],\"version\":1,\"view\":1}\n",
+        ),
+        (
+            "{\"op\":\"table\",\"columns\":[[\"k\",\"integer\"],[\"v\",\"integer\"]],\"index\":\"k\"}\n{\"op\":\"open\",\"plan\":{},\"bound\":0}\n{\"op\":\"take\",\"view\":0}\n",
+            "\n{\"edit\":0,\"from\":[0,0],\"is\":\"delta\",\"n\":3,\"put\":[],\"removed\":[],\"version\":0,\"view\":0}\n",
+        ),
+    ];
+    for (lines, want) in cases {
+        assert!(rt; ends_with(rt.alloc(), lines, want)?, "{lines}");
+    }
+    Ok(())
+}
+
+#[test]
+fn each_view_has_its_own_base(rt: HostRuntime) -> Result<(), Fail> {
+    let cases = [
+        (
+            "{\"op\":\"table\",\"columns\":[[\"k\",\"integer\"],[\"v\",\"integer\"]],\"index\":\"k\"}\n{\"op\":\"port\"}\n{\"op\":\"update\",\"port\":0,\"rows\":[{\"k\":2,\"v\":5},{\"k\":1,\"v\":7}]}\n{\"op\":\"apply\",\"port\":0}\n{\"op\":\"open\",\"plan\":{},\"bound\":10}\n{\"op\":\"update\",\"port\":0,\"rows\":[{\"k\":3,\"v\":1}]}\n{\"op\":\"apply\",\"port\":0}\n{\"op\":\"take\",\"view\":0}\n{\"op\":\"open\",\"plan\":{}}\n{\"op\":\"update\",\"port\":0,\"rows\":[{\"k\":2,\"v\":6}]}\n{\"op\":\"apply\",\"port\":0}\n{\"op\":\"take\",\"view\":1}\n",
+            "\n{\"edit\":0,\"from\":[2,0],\"is\":\"delta\",\"n\":12,\"put\":[[1,[[\"r\",2],{\"k\":2,\"v\":6}]]],\"removed\":[],\"version\":3,\"view\":1}\n",
+        ),
+        (
+            "{\"op\":\"table\",\"columns\":[[\"k\",\"integer\"],[\"v\",\"integer\"]],\"index\":\"k\"}\n{\"op\":\"port\"}\n{\"op\":\"update\",\"port\":0,\"rows\":[{\"k\":2,\"v\":5},{\"k\":1,\"v\":7}]}\n{\"op\":\"apply\",\"port\":0}\n{\"op\":\"open\",\"plan\":{},\"bound\":10}\n{\"op\":\"update\",\"port\":0,\"rows\":[{\"k\":3,\"v\":1}]}\n{\"op\":\"apply\",\"port\":0}\n{\"op\":\"open\",\"plan\":{}}\n{\"op\":\"update\",\"port\":0,\"rows\":[{\"k\":2,\"v\":6}]}\n{\"op\":\"apply\",\"port\":0}\n{\"op\":\"take\",\"view\":1}\n{\"op\":\"take\",\"view\":0}\n",
+            "\n{\"edit\":0,\"from\":[1,0],\"is\":\"delta\",\"n\":12,\"put\":[[1,[[\"r\",2],{\"k\":2,\"v\":6}]],[2,[[\"r\",3],{\"k\":3,\"v\":1}]]],\"removed\":[],\"version\":3,\"view\":0}\n",
+        ),
+        (
+            "{\"op\":\"table\",\"columns\":[[\"k\",\"integer\"],[\"v\",\"integer\"]],\"index\":\"k\"}\n{\"op\":\"port\"}\n{\"op\":\"update\",\"port\":0,\"rows\":[{\"k\":2,\"v\":5},{\"k\":1,\"v\":7}]}\n{\"op\":\"apply\",\"port\":0}\n{\"op\":\"open\",\"plan\":{},\"bound\":10}\n{\"op\":\"update\",\"port\":0,\"rows\":[{\"k\":-4,\"v\":9}]}\n{\"op\":\"apply\",\"port\":0}\n{\"op\":\"remove\",\"port\":0,\"keys\":[2,1]}\n{\"op\":\"apply\",\"port\":0}\n{\"op\":\"take\",\"view\":0}\n",
+            "\n{\"edit\":0,\"from\":[1,0],\"is\":\"delta\",\"n\":10,\"put\":[[0,[[\"r\",-4],{\"k\":-4,\"v\":9}]]],\"removed\":[[\"r\",1],[\"r\",2]],\"version\":3,\"view\":0}\n",
+        ),
+        (
+            "{\"op\":\"table\",\"columns\":[[\"k\",\"integer\"],[\"v\",\"integer\"]],\"index\":\"k\"}\n{\"op\":\"port\"}\n{\"op\":\"update\",\"port\":0,\"rows\":[{\"k\":2,\"v\":5},{\"k\":1,\"v\":7}]}\n{\"op\":\"apply\",\"port\":0}\n{\"op\":\"open\",\"plan\":{},\"bound\":10}\n{\"op\":\"take\",\"session\":1,\"view\":0}\n",
+            "\n{\"at\":[],\"cause\":\"no view\",\"code\":15,\"is\":\"refused\",\"n\":1,\"version\":1}\n",
+        ),
+        (
+            "{\"op\":\"table\",\"columns\":[[\"k\",\"integer\"],[\"v\",\"integer\"]],\"index\":\"k\"}\n{\"op\":\"port\"}\n{\"op\":\"update\",\"port\":0,\"rows\":[{\"k\":2,\"v\":5},{\"k\":1,\"v\":7}]}\n{\"op\":\"apply\",\"port\":0}\n{\"op\":\"open\",\"plan\":{},\"bound\":10}\n{\"op\":\"close\",\"view\":0}\n{\"op\":\"take\",\"view\":0}\n",
+            "\n{\"at\":[],\"cause\":\"no view\",\"code\":15,\"is\":\"refused\",\"n\":7,\"version\":1}\n",
+        ),
+    ];
+    for (lines, want) in cases {
+        assert!(rt; ends_with(rt.alloc(), lines, want)?, "{lines}");
+    }
+    Ok(())
+}
+
+/// A batch of 1,024 rows in CSV, whose keys count on from `first`, and its `apply`.
+fn filling(alloc: Global, first: u32) -> Result<String, Memory> {
+    let mut lines = String::from_str(alloc, "{\"op\":\"csv\",\"port\":0,\"text\":\"k,v\\n")?;
+    for i in 0..1024 {
+        let key = u64::from(first) + i;
+        lines.push_str(format!(in alloc; "{key},{i}\\n")?.as_str())?;
+    }
+    lines.push_str("\"}\n{\"op\":\"apply\",\"port\":0}\n")?;
+    Ok(lines)
+}
+
+#[test]
+fn a_table_is_filled_replaced_and_cleared(rt: HostRuntime) -> Result<(), Fail> {
+    let alloc = rt.alloc();
+    let mut lines = String::from_str(alloc, "{\"op\":\"port\"}\n")?;
+    for batch in 0..64u32 {
+        lines.push_str(filling(alloc, batch * 1024)?.as_str())?;
+    }
+    lines.push_str(
+        "{\"op\":\"info\"}\n{\"op\":\"replace\",\"port\":0,\"rows\":[{\"k\":1},{\"k\":5}]}\n{\"op\":\"apply\",\"port\":0}\n{\"op\":\"info\"}\n{\"op\":\"clear\",\"port\":0}\n{\"op\":\"apply\",\"port\":0}\n{\"op\":\"info\"}\n",
+    )?;
+    let want =
+        "\n{\"columns\":[[\"k\",\"integer\"],[\"v\",\"integer\"]],\"index\":\"k\",\"is\":\"info\",\"n\":131,\"size\":65536,\"version\":64,\"waiting\":0}\n{\"is\":\"queued\",\"n\":132,\"port\":0,\"seq\":65,\"version\":64}\n{\"is\":\"applied\",\"n\":133,\"port\":0,\"seq\":65,\"version\":65}\n{\"columns\":[[\"k\",\"integer\"],[\"v\",\"integer\"]],\"index\":\"k\",\"is\":\"info\",\"n\":134,\"size\":2,\"version\":65,\"waiting\":0}\n{\"is\":\"queued\",\"n\":135,\"port\":0,\"seq\":66,\"version\":65}\n{\"is\":\"applied\",\"n\":136,\"port\":0,\"seq\":66,\"version\":66}\n{\"columns\":[[\"k\",\"integer\"],[\"v\",\"integer\"]],\"index\":\"k\",\"is\":\"info\",\"n\":137,\"size\":0,\"version\":66,\"waiting\":0}\n";
+    assert!(rt; last_is(alloc, lines.as_str(), want)?);
+    Ok(())
+}
+
+#[test]
 fn ports_close_and_drain(rt: HostRuntime) -> Result<(), Fail> {
     let cases = [
         (

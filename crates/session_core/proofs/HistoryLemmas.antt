@@ -44,4 +44,5 @@ tell_histories lines out small answers =
       legal = all.legal;
       requests = all.requests;
       written = answers.written ∙ ap reply_lines (sym all.answers);
+      folds = answers.folds;
     }

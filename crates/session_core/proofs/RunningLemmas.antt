@@ -13,6 +13,7 @@ use Rattle.io_ends.specs.declared.line.LineFault.{LineFault}
 use Rattle.io_ends.specs.declared.line.LineFault.TheVariants as fault
 use Rattle.frame_types.specs.Asks.{Ask}
 use Rattle.frame_types.specs.declared.reply.Reply.{Reply}
+use Rattle.hub_spec.proofs.Folding.{deltas_fold}
 use Rattle.hub_spec.specs.Histories.{Entry, followed, told}
 use Rattle.hub_spec.specs.Runs.{IsAnswer, Ran}
 use Rattle.session_core.specs.Answers.{Answered, Answers, PartlyAnswers, PartOf, PartOfNext, asked_in, asked_of, reply_line, reply_lines, script_limit}
@@ -105,6 +106,7 @@ partly all done others replies now is ran = record {
   lines_are = is;
   written = sym (append-nil (reply_lines replies));
   ran = ran;
+  folds = deltas_fold script_limit now;
   next = nothing_yet now others;
 }
 
@@ -138,6 +140,7 @@ fails before left left' into written reader given' Stands fault.Read came more d
           let same : ended_lines (came ++ more) ≡ done =
           none_after reader.held more reader.given done came (not_ended reader.ended reader.held left came done still run.cut) (subst (λ (m : List ℕ). NoEnd (reader.held ++ m)) all none) in
           subst P (sym same) run.ran;
+      folds = deltas_fold script_limit now;
     },
     (let size = length-append came more in let given : reader.given ≡ length came = run.given in omega arith),
   ),
@@ -160,6 +163,7 @@ fails before left left' into written reader given' Stands fault.TooMany came mor
               let same : ended_lines (take (2 ^ 30) (came ++ more)) ≡ done =
               ap ended_lines cut_off ∙ none_after reader.held front reader.given done came (not_ended reader.ended reader.held left came done still run.cut) none in
               subst P (sym same) run.ran;
+          folds = deltas_fold script_limit now;
         },
         (let size = length-append came more in omega arith),
       ),
@@ -330,6 +334,7 @@ stops before left into written written' reader Stands came done text replies now
       lines_are = rest.1 ∙ append_assoc done (text ∷ []) rest.0;
       written = refl;
       ran = run.ran;
+      folds = deltas_fold script_limit now;
       next = next;
     }
 
@@ -377,6 +382,7 @@ finished before left into written reader Stands came done replies now count run 
         after = now;
         written = refl;
         ran = let P : List (List ℕ) → Type 0 = λ d. Ran script_limit [] (map asked_of d) replies now in subst P (sym cut.0) run.ran;
+        folds = deltas_fold script_limit now;
       },
       is ∙ ap length (sym cut.0),
       (let given = run.given in omega arith),

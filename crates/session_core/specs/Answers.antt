@@ -10,6 +10,7 @@ use Rattle.frame_json.specs.Requests.{request_of, unread_by}
 use Rattle.frame_json.specs.Replies.{text}
 use Rattle.std.specs.Io.KnownBytes.{Appends}
 use Rattle.hub_spec.specs.Histories.{Entry, followed, told}
+use Rattle.hub_spec.specs.Laws.{Folds}
 use Rattle.hub_spec.specs.Runs.{IsAnswer, Ran}
 
 -- the most steps of a script's history, which a script is too short to reach
@@ -34,12 +35,14 @@ abbrev pub reply_lines : List Reply → List ℕ
 reply_lines replies = flat_map reply_line replies
 
 -- the bytes are one reply line for each line, each the answer computed from scratch after those
--- before it, under a choice that it names and that is allowed there
+-- before it, under a choice that it names and that is allowed there; and in the history that they
+-- make, a client that folds each delta holds what its view showed
 pub record Answers (lines : List (List ℕ)) (out : List ℕ) : Type 0 where
   pub replies : List Reply
   pub after : List Entry
   pub written : out ≡ reply_lines replies
   pub ran : Ran script_limit [] (map asked_of lines) replies after
+  pub folds : Folds script_limit after
 
 -- nothing, or a front of a reply line that answers the request after this history
 abbrev pub PartOf : ℕ → List Entry → ℕ × Ask → List ℕ → Type 0
@@ -59,6 +62,7 @@ pub record PartlyAnswers (lines : List (List ℕ)) (out : List ℕ) : Type 0 whe
   pub lines_are : lines ≡ done ++ others
   pub written : out ≡ reply_lines replies ++ part
   pub ran : Ran script_limit [] (map asked_of done) replies after
+  pub folds : Folds script_limit after
   pub next : PartOfNext after others part
 
 -- one request was answered: the sink took its reply line, and what follows has the property

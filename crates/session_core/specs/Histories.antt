@@ -4,6 +4,7 @@ use Rattle.frame_types.specs.Asks.{Ask}
 use Rattle.frame_types.specs.declared.reply.Reply.{Reply}
 use Rattle.hub_spec.specs.Answered.{Answered}
 use Rattle.hub_spec.specs.Histories.{Entry, IsLegal, answered}
+use Rattle.hub_spec.specs.Laws.{Folds}
 use Rattle.session_core.specs.Answers.{Answers, asked_of, reply_lines, script_limit}
 
 -- the requests of a history, the first one first
@@ -16,12 +17,14 @@ abbrev pub replies_of : List Answered → List Reply
 replies_of [] = []
 replies_of (d ∷ past) = replies_of past ++ d.reply ∷ []
 
--- the bytes are the reply lines of a legal history whose requests are those of the lines
+-- the bytes are the reply lines of a legal history whose requests are those of the lines, and in which a
+-- client that folds each delta holds what its view showed
 pub record TellsHistory (lines : List (List ℕ)) (out : List ℕ) : Type 0 where
   pub history : List Entry
   pub legal : IsLegal script_limit history
   pub requests : requests_of history ≡ map asked_of lines
   pub written : out ≡ reply_lines (replies_of (answered script_limit history))
+  pub folds : Folds script_limit history
 
 -- where bytes answer lines, they are the reply lines of the lines' history
 abbrev pub AnswersTellHistories : Type 0

@@ -33,3 +33,9 @@ impl ViewKey {
         self.cmp(other)
     }
 }
+
+impl Copies for ViewKey {
+    fn copies(&self, alloc: Global) -> Result<ViewKey, Memory> {
+        self.copy(alloc)
+    }
+}

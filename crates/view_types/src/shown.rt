@@ -1,13 +1,15 @@
-ghost use Rattle.std.specs.Prelude.{◌≡◌, ◌∷◌, ◌++◌, [], length, OnOk, OnErr};
+ghost use Rattle.std.specs.Prelude.{◌≡◌, ◌&&◌, [], length, OnOk, OnErr};
 ghost use Rattle.std.specs.BTreeMap.{insert_entry};
 ghost use Rattle.std.specs.Cmp.Lexicographic.{slice_cmp};
 ghost use Rattle.std.specs.List.Sorted.{IsStrictlySortedBy};
 ghost use Rattle.std.specs.Map.{keys_of};
 ghost use Rattle.std.specs.Ordering.{nat_cmp};
 ghost use Rattle.view_types.specs.Cells.{put_cell};
+ghost use Rattle.view_types.specs.Same.{same_cells, same_header as is_same_header, same_row, same_text};
+ghost use Rattle.view_types.specs.Types.{shown_type_name};
 
 use crate::key::ViewKey;
-use cell_core::{CellType, Listed, Memory, Text, Value};
+use cell_core::{CellType, Copies, Listed, Memory, Text, Value};
 use std::alloc::Global;
 use std::collections::BTreeMap;
 use std::marker::Model;
@@ -72,12 +74,37 @@ impl ShownCells {
         &self.entries
     }
 
+    /// Whether the same values stand under the same texts.
+    pub fn same(&self, other: &ShownCells) -> bool
+        ensures { result ≡ same_cells self.now other.now }
+    {
+        let mut others = other.entries.iter();
+        for (text, value) in &self.entries {
+            match others.next() {
+                Some((other_text, other_value))
+                    if text.cmp(other_text).is_eq() && value.order(other_value).is_eq() => {}
+                _ => return false,
+            }
+        }
+        others.next().is_none()
+    }
+
     /// The number of values.
     pub fn len(&self) -> usize
         ensures count { result ≡ length self.now }
         ensures ascending { IsStrictlySortedBy (slice_cmp nat_cmp) (keys_of self.now) }
     {
         self.entries.len()
+    }
+}
+
+impl Copies for ShownCells {
+    fn copies(&self, alloc: Global) -> Result<ShownCells, Memory> {
+        let mut entries = BTreeMap::new(alloc);
+        for (column, value) in &self.entries {
+            drop(entries.insert(column.copies(alloc)?, value.copies(alloc)?)?);
+        }
+        Ok(ShownCells { entries })
     }
 }
 
@@ -88,6 +115,27 @@ pub struct ShownRow {
     /// Whether it is a group that is open.
     pub mark: bool,
     pub cells: ShownCells,
+}
+
+impl ShownRow {
+    /// Whether the key, the mark and the cells are the same.
+    pub fn same(&self, other: &ShownRow) -> bool
+        ensures { result ≡ same_row self.now other.now }
+    {
+        self.key.order(&other.key).is_eq()
+            && self.mark == other.mark
+            && self.cells.same(&other.cells)
+    }
+}
+
+impl Copies for ShownRow {
+    fn copies(&self, alloc: Global) -> Result<ShownRow, Memory> {
+        Ok(ShownRow {
+            key: self.key.copy(alloc)?,
+            mark: self.mark,
+            cells: self.cells.copies(alloc)?,
+        })
+    }
 }
 
 /// Rows in the order in which they are shown. No key stands twice, and a row that is no group has no
@@ -128,11 +176,60 @@ impl ShownRows {
     }
 }
 
+impl Copies for ShownRows {
+    fn copies(&self, alloc: Global) -> Result<ShownRows, Memory> {
+        Ok(ShownRows {
+            rows: self.rows.copies(alloc)?,
+        })
+    }
+}
+
+impl Copies for HeaderColumn {
+    fn copies(&self, alloc: Global) -> Result<HeaderColumn, Memory> {
+        Ok(HeaderColumn {
+            text: self.text.copies(alloc)?,
+            kind: self.kind,
+        })
+    }
+}
+
+impl HeaderColumn {
+    /// Whether the text and the type are the same.
+    fn same(&self, other: &HeaderColumn) -> bool
+        ensures { result ≡ same_text self.now.text other.now.text && same_text (shown_type_name self.now.kind) (shown_type_name other.now.kind) }
+    {
+        self.text.cmp(&other.text).is_eq() && self.kind.name().cmp(other.kind.name()).is_eq()
+    }
+}
+
+/// Whether two headers have the same texts and types in the same order.
+pub fn same_header(a: &[HeaderColumn], b: &[HeaderColumn]) -> bool
+    ensures { result ≡ is_same_header a.now b.now }
+{
+    let mut others = b.iter();
+    for column in a {
+        match others.next() {
+            Some(other) if column.same(other) => {}
+            _ => return false,
+        }
+    }
+    others.next().is_none()
+}
+
 /// What a view shows.
 #[derive(Debug, Drop)]
 pub struct Shown {
     pub header: Header,
     pub rows: ShownRows,
+}
+
+impl Copies for Shown {
+    fn copies(&self, alloc: Global) -> Result<Shown, Memory> {
+        Ok(Shown {
+            header: self.header.copies(alloc)?,
+            rows: self.rows.copies(alloc)?,
+        })
+    }
 }
 
 impl ShownType {

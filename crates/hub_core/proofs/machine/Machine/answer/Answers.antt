@@ -1,3 +1,8 @@
+use Rattle.std.proofs.Common.{refl}
+use Rattle.frame_types.specs.Asks as ask
+use Rattle.frame_types.specs.Refusals.{bad_frame, frame_cause}
+use Rattle.hub_core.specs.Holding.{plain_in}
+use Rattle.hub_core.proofs.Refusing.{refused_does}
 use Rattle.hub_core.proofs.machine.Machine.answer.Goals as goal
 
 pub returns-in-Table : goal.returns-in-Table
@@ -29,3 +34,13 @@ returns-in-ClosePort g c = λ past h few. rw c.in-ClosePort.is (c.close_port.ens
 
 pub returns-in-Apply : goal.returns-in-Apply
 returns-in-Apply g c = λ past h few. rw c.in-Apply.is (c.apply.ensures past h few c.args.session)
+
+pub returns-in-Take : goal.returns-in-Take
+returns-in-Take g c = λ past h few. rw c.in-Take.is (c.take.ensures past h few c.in-Take.wait)
+
+pub returns-in-Unread : goal.returns-in-Unread
+returns-in-Unread g c = λ past h few.
+    let m = c.args.self.now in
+    let request = ask.unread c.in-Unread.why in
+    rw (c.in-Unread.is, c.unread.ensures)
+    (refused_does m past c.args.session request (plain_in past c.args.session request) (bad_frame (frame_cause c.in-Unread.why)) h refl refl)

@@ -6,7 +6,9 @@ use Rattle.hub_spec.specs.Answers.{full_port, queued}
 use Rattle.hub_spec.specs.Ports.{schema}
 use Rattle.hub_spec.specs.Reading.{batch_asked}
 use Rattle.hub_core.specs.Holding.{plain_in, put_answer}
-use Rattle.hub_core.proofs.PortDeeds.{table_made, port_pass, may_put, at_number_alone, by_plain}
+use Rattle.hub_core.proofs.Parts.{answer_does}
+use Rattle.hub_core.proofs.PortDeeds.{port_stop, table_made, port_pass, may_put, at_number_alone, by_plain}
+use Rattle.hub_core.proofs.Refusing.{err_body}
 use Rattle.hub_core.proofs.machine.Machine.clear.Goals as goal
 
 pub returns : goal.returns
@@ -22,3 +24,11 @@ returns c = λ past h few session.
     by_plain past session (ask.clear port) _ _ _ _ plain
     (at_number_alone past session port number (ask.clear port) _ _ c.in_ok-place.ensures.number
     (c.queue_batch.ensures past h few c.in_ok-place.ensures.open session (ask.clear port) asked (may_put past (ask.clear port) number (λ answer. refl))))
+
+pub returns-in_err-place : goal.returns-in_err-place
+returns-in_err-place c = λ past h few session.
+    let port = c.args.port in
+    let request = ask.clear port in
+    answer_does past session request _ _ _ _ (err_body _ _ c.from_residual-in_err-place.ensures)
+    (port_stop c.args.self.now past session request port (full_port past port ∷ []) (plain_in past session request) (queued past port)
+    c.in_ok-_table._table.now _ h c.in_ok-_table.ensures.ok refl (c.in_err-place.ensures.err past h) c.in_err-place.ensures.other)

@@ -1,9 +1,14 @@
-use Rattle.std.proofs.Common.{refl, sym, subst}
+use Rattle.std.proofs.Common.{[], refl, sym, subst}
+use Rattle.frame_types.specs.Asks as ask
+use Rattle.frame_types.specs.declared.reply.Body.TheVariants as body
 use Rattle.hub_ports.specs.Ports.{PortsData}
 use Rattle.hub_core.specs.Tables.{schema_in}
 use Rattle.hub_core.specs.Taken.{AreTaken}
-use Rattle.hub_core.proofs.PortDeeds.{close_done}
+use Rattle.hub_core.specs.Holding.{plain_in}
+use Rattle.hub_core.proofs.Parts.{answer_does}
+use Rattle.hub_core.proofs.PortDeeds.{port_stop, close_done}
 use Rattle.hub_core.proofs.Takings.{closed_taken}
+use Rattle.hub_core.proofs.Refusing.{err_body}
 use Rattle.hub_core.proofs.machine.Machine.close_port.Goals as goal
 
 pub invariant_of-self : goal.invariant_of-self
@@ -19,3 +24,11 @@ returns c = λ past h few session.
     close_done c.args.self.now past session c.args.port c.in_ok-place.place c.in_ok-_table._table.now h c.in_ok-_table.ensures.ok
     c.in_ok-place.ensures.within c.in_ok-place.ensures.number (c.in_ok-place.ensures.ok past h) _
     (record { table = refl; number = refl; ports = c.close.ensures; views = refl; opened = refl })
+
+pub returns-in_err-place : goal.returns-in_err-place
+returns-in_err-place c = λ past h few session.
+    let port = c.args.port in
+    let request = ask.close_port port in
+    answer_does past session request _ _ _ _ (err_body _ _ c.from_residual-in_err-place.ensures)
+    (port_stop c.args.self.now past session request port ([]) (plain_in past session request) (body.PortClosed port)
+    c.in_ok-_table._table.now _ h c.in_ok-_table.ensures.ok refl (c.in_err-place.ensures.err past h) c.in_err-place.ensures.other)

@@ -1,6 +1,6 @@
 use Rattle.std.proofs.Common.{map, ap, ◌∙◌}
 use Rattle.hub_spec.specs.Answers.{column_words, index_name, limit_in}
-use Rattle.hub_core.proofs.PortDeeds.{info_does}
+use Rattle.hub_core.proofs.PortDeeds.{info_does, info_wants}
 use Rattle.hub_core.proofs.machine.Machine.info.Goals as goal
 
 pub returns : goal.returns
@@ -14,3 +14,11 @@ returns c = λ past h few session.
     (c.limit_of.ensures ∙ ap (λ s. limit_in s.keeping) schema)
     c.size.ensures.size
     c.batches_waiting.ensures.batches
+
+pub returns-in_default : goal.returns-in_default
+returns-in_default c = λ past h few session.
+    rw c.memory.ensures (info_wants c.args.self.now past session c.in_ok-table.table.now h c.in_ok-table.ensures.ok)
+
+pub returns-in_default-index_name : goal.returns-in_default-index_name
+returns-in_default-index_name c = λ past h few session.
+    rw c.memory-in_default-index_name.ensures (info_wants c.args.self.now past session c.in_ok-table.table.now h c.in_ok-table.ensures.ok)

@@ -2,6 +2,7 @@ use Rattle.std.proofs.Common.{refl, ap}
 use Rattle.frame_types.specs.declared.reply.Body.TheVariants as body
 use Rattle.hub_core.proofs.Parts.{answer_does, same_does}
 use Rattle.hub_core.proofs.PortDeeds.{put_done, put_full, full_outcome}
+use Rattle.hub_core.proofs.Refusing.{wanted_does}
 use Rattle.hub_core.proofs.machine.Machine.queue_batch.Goals as goal
 
 pub returns-in-Ok : goal.returns-in-Ok
@@ -16,3 +17,9 @@ returns-in-Err-Full c = λ past h few shut session request asked may.
     (record { table = refl; number = refl; ports = c.in-Err-Full.ensures.err; views = refl; opened = refl }) (ap body.Refused c.port_full.ensures)
     (put_full c.args.self.now past session request c.args.place c.args.batch h c.requires.within shut
     (full_outcome _ c.args.batch c.in-Err-Full.field-0 c.in-Err-Full.field-0-is c.in-Err-Full.ensures.outcome))
+
+pub returns-in-Err-Memory : goal.returns-in-Err-Memory
+returns-in-Err-Memory c = λ past h few shut session request asked may.
+    same_does c.args.self.now _ past session request _ _ _
+    (record { table = refl; number = refl; ports = c.in-Err-Memory.ensures.err; views = refl; opened = refl }) (ap body.Refused c.memory.ensures)
+    (wanted_does c.args.self.now past session request _ h may)

@@ -1,6 +1,9 @@
 use Rattle.std.proofs.Common.{leb, length, sym, ap, ◌∙◌}
 use Rattle.hub_spec.specs.Histories.{may_choose, want}
+use Rattle.frame_types.specs.declared.reply.Body.TheVariants as body
+use Rattle.hub_core.proofs.Parts.{answer_does}
 use Rattle.hub_core.proofs.PortDeeds.{rows_full, rows_over, rows_room, table_of, by_plain}
+use Rattle.hub_core.proofs.Refusing.{wanted_does}
 use Rattle.hub_core.proofs.machine.Machine.queue_rows.Goals as goal
 
 pub returns-then-is_full : goal.returns-then-is_full
@@ -25,3 +28,7 @@ returns-in-Ok-Some g c = λ past h few shut session request asked may.
     let free = ap (λ q. leb 64 (length q.waiting)) (sym c.queue.ensures) ∙ sym c.is_full.ensures ∙ c.if-is_full.false in
     rw c.table_full.ensures
     (rows_over m past session request c.args.place c.in-Ok-Some.would t.0 c.args.batch h t.1 c.requires.within free (sym c.in-Ok-Some.ensures ∙ c.in-Ok-Some.field-0-is))
+
+pub returns-in-Err : goal.returns-in-Err
+returns-in-Err g c = λ past h few shut session request asked may.
+    answer_does past session request _ _ _ _ (ap body.Refused c.memory.ensures) (wanted_does c.args.self.now past session request _ h may)

@@ -1,11 +1,16 @@
-use Rattle.std.proofs.Common.{◌≡◌, Ok, refl, sym, ap, ◌∙◌}
+use Rattle.std.proofs.Common.{◌≡◌, Ok, [], ◌∷◌, refl, sym, ap, ◌∙◌, subst}
 use Rattle.cell_core.specs.RawViews.{raw_view}
 use Rattle.row_batch.specs.declared.batch.Batch.TheVariants as batch
+use Rattle.row_batch.specs.Reading.{RefusesRows}
 use Rattle.frame_types.specs.Asks as ask
+use Rattle.frame_types.specs.declared.reply.Body.TheVariants as body
 use Rattle.hub_ports.specs.Ports.{port_at}
 use Rattle.json_rows.specs.Reading.{read_rows}
+use Rattle.hub_spec.specs.Answers.{bad_batch, full_port, full_table, queued}
 use Rattle.hub_core.specs.Holding.{plain_in, rows_answer}
-use Rattle.hub_core.proofs.PortDeeds.{read_asks, rows_plain, may_put_rows, at_number, by_plain}
+use Rattle.hub_core.proofs.Parts.{answer_does}
+use Rattle.hub_core.proofs.PortDeeds.{read_asks, read_stop, rows_plain, may_put_rows, may_read_rows, port_stop, at_number, by_plain}
+use Rattle.hub_core.proofs.Refusing.{err_body}
 use Rattle.hub_core.proofs.machine.Machine.update.Goals as goal
 
 pub returns-in-Ok : goal.returns-in-Ok
@@ -22,3 +27,23 @@ returns-in-Ok g c = λ past h few session.
     by_plain past session request _ _ _ _ plain
     (at_number past session port number request _ _ (batch.Update c.in-Ok.patches) c.in_ok-place.ensures.number
     (c.queue_rows.ensures past h few c.in_ok-place.ensures.open session request asked (may_put_rows past request number (batch.Update c.in-Ok.patches) (λ answer. refl))))
+
+pub returns-in_err-place : goal.returns-in_err-place
+returns-in_err-place g c = λ past h few session.
+    let m = c.args.self.now in
+    let port = c.args.port in
+    let request = ask.update port (raw_view c.args.rows) in
+    answer_does past session request _ _ _ _ (err_body _ _ c.from_residual-in_err-place.ensures)
+    (port_stop m past session request port (bad_batch past request ∷ full_port past port ∷ full_table past request ∷ []) (plain_in past session request) (queued past port)
+    c.in_ok-table.table.now _ h c.in_ok-table.ensures.ok refl (c.in_err-place.ensures.err past h) c.in_err-place.ensures.other)
+
+pub returns : goal.returns
+returns g c = λ past h few session.
+    let m = c.args.self.now in
+    let t = c.in_ok-table.table.now in
+    let port = c.args.port in
+    let request = ask.update port (raw_view c.args.rows) in
+    answer_does past session request _ _ _ _ (ap body.Refused c.rows.ensures)
+    (read_stop m past session request port (full_port past port ∷ full_table past request ∷ []) (plain_in past session request) (queued past port)
+    t batch.Update (read_rows t.schema (raw_view c.args.rows)) c.in-Err.why h c.in_ok-table.ensures.ok refl (c.in_ok-place.ensures.ok past h) refl
+    (subst (λ s. RefusesRows (read_rows s (raw_view c.args.rows)) c.in-Err.why) c.schema.ensures c.in-Err.ensures.err) (may_read_rows past request port (λ answer. refl)))

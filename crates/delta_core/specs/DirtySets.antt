@@ -1,0 +1,35 @@
+-- The keys that steps touched since some mark.
+use Rattle.std.specs.Prelude.{ℕ, nat_lt, List, [], ◌∷◌, length, fold, Bool, true, false, if◌then◌else◌}
+use Rattle.std.specs.Ordering.{match_ordering}
+use Rattle.view_types.specs.Keys.{key_order}
+use Rattle.view_types.specs.declared.key.ViewKey.{ViewKey}
+
+-- what a dirty set keeps: the touched keys, each beside whether it was shown before the step that touched it
+-- first, or none of them once they are more than the bound; and whether a header was touched
+pub record DirtyData : Type 0 where
+  pub bound : ℕ
+  pub keys : List (ViewKey × Bool)
+  pub over : Bool
+  pub header : Bool
+
+-- the key in its place by the order of keys; one that is there stays as it is
+abbrev pub with_touched : List (ViewKey × Bool) → (ViewKey × Bool) → List (ViewKey × Bool)
+with_touched [] t = t ∷ []
+with_touched (e ∷ es) t = match_ordering (key_order t.0 e.0) (t ∷ e ∷ es) (e ∷ es) (e ∷ with_touched es t)
+
+-- the union of the keys touched so far and those touched by one step more
+abbrev pub joined : List (ViewKey × Bool) → List (ViewKey × Bool) → List (ViewKey × Bool)
+joined keys touched = fold with_touched keys touched
+
+-- the dirty set for all these keys
+abbrev pub dirty_of : ℕ → List (ViewKey × Bool) → Bool → DirtyData
+dirty_of bound keys header = record {
+  bound = bound;
+  keys = if nat_lt bound (length keys) then [] else keys;
+  over = nat_lt bound (length keys);
+  header = header;
+}
+
+abbrev pub is_empty : {X : Type 0} → List X → Bool
+is_empty [] = true
+is_empty (x ∷ xs) = false

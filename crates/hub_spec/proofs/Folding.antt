@@ -1,0 +1,374 @@
+-- What a client holds that folds each delta is what the view showed at its base.
+use Rattle.std.proofs.Common.{◌≡◌, ℕ, ◌+◌, eqb, Bool, true, false, ◌||◌, ◌&&◌, cond, List, [], ◌∷◌, ◌++◌, length, map, filter, fold, find, All, Option, Some, None, refl, sym, ap, ◌∙◌, subst, ◌⊎◌, inl, inr}
+use Rattle.std.specs.Prelude.{is_some, is_none, not, unwrap_or, option_and_then}
+use Rattle.std.specs.List.{list_any}
+use Rattle.std.proofs.lemmas.Bool.{eqb-true, eq-eqb}
+use Rattle.std.proofs.lemmas.List.Elements.{All-nil, All-cons, All-head, All-tail, All-map, All-weaker, All-push, All-filter}
+use Rattle.std.proofs.lemmas.List.Folds.{list_any-append}
+use Rattle.cell_core.specs.Schemas.{SchemaData}
+use Rattle.plain_data.specs.Distinct.{AreDistinct}
+use Rattle.row_batch.specs.Batches.{Store, empty_store}
+use Rattle.row_batch.specs.Tables.{keys_of_rows}
+use Rattle.row_batch.proofs.Keys.{KeepsKeys, batch_keeps, empty_is_counted}
+use Rattle.frame_types.specs.Asks.{Ask}
+use Rattle.frame_types.specs.Asks as ask
+use Rattle.frame_types.specs.declared.reply.Body.{Body}
+use Rattle.frame_types.specs.declared.reply.Body.TheVariants as body
+use Rattle.frame_types.specs.declared.reply.Refusal.{Refusal}
+use Rattle.frame_types.specs.declared.reply.Reply.{Reply}
+use Rattle.view_types.specs.declared.key.ViewKey.{ViewKey}
+use Rattle.view_types.specs.declared.shown.Shown.{Shown}
+use Rattle.delta_core.specs.Deltas.{delta_of, marked}
+use Rattle.delta_core.specs.Folding.{fold_fault, folded}
+use Rattle.delta_core.specs.KeySets.{is_among, with_keys}
+use Rattle.delta_core.specs.Laws.{Agree}
+use Rattle.delta_core.specs.declared.delta.Delta.{Delta}
+use Rattle.delta_core.specs.declared.delta.Mark.{Mark}
+use Rattle.delta_core.specs.declared.folding.Held.{Held}
+use Rattle.delta_core.proofs.KeySetLemmas.{is_among-with_keys}
+use Rattle.plain_view.specs.Flat.{flat_view}
+use Rattle.plain_view.specs.Touching.{PlacedRow, head_touched, key_of, placed, touched_keys}
+use Rattle.plain_view.proofs.TouchLaws.{IsSorted, sorted_view, sorted_nothing, touched_agree, touched_keys-itself, head_touched-exact, head_touched-itself, delta_restores}
+use Rattle.hub_spec.specs.Answered.{Answered}
+use Rattle.hub_spec.specs.Bases.{base, base_or_none, delta_in, dirty, edit_by, fold_in, folded_after, folded_in, head_dirty, is_base, mark_in, no_base, nothing_shown, placed_in, shown_by, shown_in, tells_of}
+use Rattle.hub_spec.specs.HeldViews.{HeldView, held, is_view, lost_at, opened_view, views, with_view}
+use Rattle.hub_spec.specs.Histories.{Entry, answered, answer_to}
+use Rattle.hub_spec.specs.Laws.{DeltasFold}
+use Rattle.hub_spec.specs.Ports.{Applied, applied, version_after}
+use Rattle.hub_spec.specs.Rows.{put_applied, rows, schema_or_none, store}
+use Rattle.hub_spec.proofs.Said.{Says, says_answer}
+
+-- ---- no key stands twice among the rows
+
+keys_kept : (schema : SchemaData) (s : Store) (done : List Applied) → KeepsKeys schema.keeping s → KeepsKeys schema.keeping (fold (put_applied schema) s done)
+keys_kept schema s [] h = h
+keys_kept schema s (a ∷ done) h = keys_kept schema (put_applied schema s a) done (batch_keeps schema s a.batch h.0 h.1)
+
+pub distinct_rows : (past : List Answered) → AreDistinct (keys_of_rows (rows past))
+distinct_rows past = (keys_kept (schema_or_none past) empty_store (applied past) (tt, empty_is_counted (schema_or_none past).keeping)).0
+
+-- ---- what a view shows
+
+pub sorted_by_view : (past : List Answered) (v : Option HeldView) → IsSorted (shown_by past v)
+sorted_by_view past None = sorted_nothing
+sorted_by_view past (Some v) = sorted_view (schema_or_none past) (rows past) (distinct_rows past)
+
+shown_of_some : (past : List Answered) (v : Option HeldView) → is_some v ≡ true → shown_by past v ≡ flat_view (schema_or_none past) (rows past)
+shown_of_some past None is = absurd (let wrong : false ≡ true = is in cc)
+shown_of_some past (Some v) is = refl
+
+-- ---- which views are held
+
+abbrev Has : ℕ → ℕ → List HeldView → Bool
+Has session number vs = is_some (find (is_view session number) vs)
+
+has_is_any : (test : HeldView → Bool) (vs : List HeldView) → is_some (find test vs) ≡ list_any test vs
+has_is_any test [] = refl
+has_is_any test (v ∷ vs) = by (test v) (has_is_any test vs)
+  where
+    by : (b : Bool) → is_some (find test vs) ≡ list_any test vs → is_some (cond b (Some v) (find test vs)) ≡ (b || list_any test vs)
+    by true later = refl
+    by false later = later
+
+or_cases : (a b : Bool) → (a || b) ≡ true → (a ≡ true) ⊎ (b ≡ true)
+or_cases true b h = inl refl
+or_cases false b h = inr h
+
+or_false_right : (b : Bool) → (b || false) ≡ b
+or_false_right true = refl
+or_false_right false = refl
+
+and_swap : (a b : Bool) → (a && b) ≡ (b && a)
+and_swap true true = refl
+and_swap true false = refl
+and_swap false true = refl
+and_swap false false = refl
+
+any_more : (test : HeldView → Bool) (vs : List HeldView) (w : HeldView) → list_any test (vs ++ w ∷ []) ≡ (list_any test vs || test w)
+any_more test vs w = list_any-append test vs (w ∷ []) ∙ ap (λ b. list_any test vs || b) (or_false_right (test w))
+
+or_left : (a b : Bool) → a ≡ true → (a || b) ≡ true
+or_left a b h = rw h refl
+
+or_right : (a b : Bool) → b ≡ true → (a || b) ≡ true
+or_right true b h = refl
+or_right false b h = h
+
+any_filtered : (test keeps : HeldView → Bool) (vs : List HeldView) → list_any test (filter keeps vs) ≡ true → list_any test vs ≡ true
+any_filtered test keeps [] h = h
+any_filtered test keeps (v ∷ vs) h = by (keeps v) h (λ more. any_filtered test keeps vs more)
+  where
+    by : (kept : Bool) → list_any test (cond kept (v ∷ filter keeps vs) (filter keeps vs)) ≡ true
+        → (list_any test (filter keeps vs) ≡ true → list_any test vs ≡ true) → (test v || list_any test vs) ≡ true
+    by true found later = elim (or_cases (test v) (list_any test (filter keeps vs)) found) [
+      | inl here ↦ or_left (test v) (list_any test vs) here
+      | inr more ↦ or_right (test v) (list_any test vs) (later more)
+    ]
+    by false found later = or_right (test v) (list_any test vs) (later found)
+
+any_lost : (session number at : ℕ) (lost : List (ℕ × ℕ)) (vs : List HeldView) → list_any (is_view session number) (map (lost_at at lost) vs) ≡ list_any (is_view session number) vs
+any_lost session number at lost [] = refl
+any_lost session number at lost (v ∷ vs) = by (list_any (λ (w : ℕ × ℕ). is_view w.0 w.1 v) lost) (ap (λ b. is_view session number v || b) (any_lost session number at lost vs))
+  where
+    Later : Type 0
+    Later = (is_view session number v || list_any (is_view session number) (map (lost_at at lost) vs)) ≡ (is_view session number v || list_any (is_view session number) vs)
+
+    by : (b : Bool) → Later → (is_view session number (cond b (record v { lost = Some at }) v) || list_any (is_view session number) (map (lost_at at lost) vs))
+        ≡ (is_view session number v || list_any (is_view session number) vs)
+    by true later = later
+    by false later = later
+
+abbrev step : ℕ → Ask → ℕ → ℕ → Body → Answered
+step session request n at answer = record { session = session; request = request; reply = record { n = n; version = at; body = answer } }
+
+-- a view that is held was held before, or has its base in this step
+held_before : (past : List Answered) (session n at : ℕ) (request : Ask) (answer : Body) (s number : ℕ)
+    → is_some (held (step session request n at answer ∷ past) s number) ≡ true
+    → (is_base s number (step session request n at answer) ≡ true) ⊎ (is_some (held past s number) ≡ true)
+held_before past session n at (ask.open_view plan bound) (body.Opened edit shown view) s number h =
+    let found = sym (has_is_any (is_view s number) (views past ++ opened_view session view plan bound ∷ [])) ∙ h in
+    let parts = or_cases (list_any (is_view s number) (views past)) (is_view s number (opened_view session view plan bound))
+    (sym (any_more (is_view s number) (views past) (opened_view session view plan bound)) ∙ found) in
+    elim parts [
+      | inl before ↦ inr (has_is_any (is_view s number) (views past) ∙ before)
+      | inr here ↦ inl (and_swap (eqb view number) (eqb session s) ∙ here)
+    ]
+held_before past session n at request (body.Opened edit shown view) s number h = inr h
+held_before past session n at request (body.AppliedLosing lost port seq) s number h =
+    let at_loss : ℕ = version_after past (body.AppliedLosing lost port seq) in
+    inr (has_is_any (is_view s number) (views past) ∙ sym (any_lost s number at_loss lost (views past))
+    ∙ sym (has_is_any (is_view s number) (map (lost_at at_loss lost) (views past))) ∙ h)
+held_before past session n at request (body.Closed view) s number h =
+    let keeps : HeldView → Bool = λ v. not (is_view session view v) in
+    inr (has_is_any (is_view s number) (views past)
+    ∙ any_filtered (is_view s number) keeps (views past) (sym (has_is_any (is_view s number) (filter keeps (views past))) ∙ h))
+held_before past session n at request (body.Left closed) s number h =
+    let keeps : HeldView → Bool = λ v. not (eqb v.session session) in
+    inr (has_is_any (is_view s number) (views past)
+    ∙ any_filtered (is_view s number) keeps (views past) (sym (has_is_any (is_view s number) (filter keeps (views past))) ∙ h))
+held_before past session n at request _ s number h = inr h
+
+-- ---- no view was edited
+
+abbrev IsUnedited : HeldView → Type 0
+IsUnedited v = v.edit ≡ 0
+
+unedited_lost : (at : ℕ) (lost : List (ℕ × ℕ)) (vs : List HeldView) → All IsUnedited vs → All IsUnedited (map (lost_at at lost) vs)
+unedited_lost at lost vs all = All-map IsUnedited (lost_at at lost) vs (All-weaker IsUnedited (λ v. IsUnedited (lost_at at lost v)) one vs all)
+  where
+    one : (v : HeldView) → IsUnedited v → IsUnedited (lost_at at lost v)
+    one v h = by (list_any (λ (w : ℕ × ℕ). is_view w.0 w.1 v) lost)
+      where
+        by : (b : Bool) → IsUnedited (cond b (record v { lost = Some at }) v)
+        by true = h
+        by false = h
+
+unedited_step : (past : List Answered) (session : ℕ) (answer : Body) (request : Ask) (vs : List HeldView) → All IsUnedited vs → All IsUnedited (with_view past session answer request vs)
+unedited_step past session (body.Opened edit shown view) (ask.open_view plan bound) vs all = All-push IsUnedited vs (opened_view session view plan bound) all refl
+unedited_step past session (body.Opened edit shown view) request vs all = all
+unedited_step past session (body.AppliedLosing lost port seq) request vs all = unedited_lost (version_after past (body.AppliedLosing lost port seq)) lost vs all
+unedited_step past session (body.Closed view) request vs all = All-filter (λ v. not (is_view session view v)) IsUnedited vs all
+unedited_step past session (body.Left closed) request vs all = All-filter (λ v. not (eqb v.session session)) IsUnedited vs all
+unedited_step past session _ request vs all = all
+
+unedited : (past : List Answered) → All IsUnedited (views past)
+unedited [] = All-nil IsUnedited
+unedited (d ∷ past) = unedited_step past d.session d.reply.body d.request (views past) (unedited past)
+
+edit_of_found : (test : HeldView → Bool) (vs : List HeldView) → All IsUnedited vs → edit_by (find test vs) ≡ 0
+edit_of_found test [] all = refl
+edit_of_found test (v ∷ vs) all = by (test v) (edit_of_found test vs (All-tail IsUnedited v vs all))
+  where
+    by : (b : Bool) → edit_by (find test vs) ≡ 0 → edit_by (cond b (Some v) (find test vs)) ≡ 0
+    by true later = All-head IsUnedited v vs all
+    by false later = later
+
+pub no_edit : (past : List Answered) (s number : ℕ) → edit_by (held past s number) ≡ 0
+no_edit past s number = edit_of_found (is_view s number) (views past) (unedited past)
+
+-- ---- what holds of a view after each step
+
+neither : (a b : Bool) → (a || b) ≡ false → (a ≡ false) × (b ≡ false)
+neither true b h = absurd (let wrong : true ≡ false = h in cc)
+neither false b h = (refl, h)
+
+-- outside the dirty keys a view shows what it showed at its base
+pub agree_since : (past : List Answered) (s number : ℕ)
+    → Agree key_of (dirty past s number) (placed (base_or_none past s number).shown.rows) (placed (shown_in past s number).rows)
+agree_since [] s number = λ k off. refl
+agree_since (d ∷ past) s number = by (is_base s number d) refl (agree_since past s number)
+  where
+    touched : List ViewKey
+    touched = touched_keys (placed_in past s number) (placed_in (d ∷ past) s number)
+
+    by : (b : Bool) → is_base s number d ≡ b
+        → Agree key_of (dirty past s number) (placed (base_or_none past s number).shown.rows) (placed_in past s number)
+        → Agree key_of (dirty (d ∷ past) s number) (placed (base_or_none (d ∷ past) s number).shown.rows) (placed (shown_in (d ∷ past) s number).rows)
+    by true here before = rw here (λ k off. refl)
+    by false other before = rw other (λ k off.
+        let parts = neither (is_among (dirty past s number) k) (is_among touched k) (sym (is_among-with_keys (dirty past s number) touched k) ∙ off) in
+        before k parts.0 ∙ touched_agree (placed_in past s number) (placed_in (d ∷ past) s number) k parts.1)
+
+-- and so is its header, where no step touched that
+pub headers_since : (past : List Answered) (s number : ℕ) → head_dirty past s number ≡ false
+    → (base_or_none past s number).shown.header ≡ (shown_in past s number).header
+headers_since [] s number = λ none. refl
+headers_since (d ∷ past) s number = by (is_base s number d) refl (headers_since past s number)
+  where
+    Before : Type 0
+    Before = head_dirty past s number ≡ false → (base_or_none past s number).shown.header ≡ (shown_in past s number).header
+
+    touched : Bool
+    touched = head_touched (shown_in past s number) (shown_in (d ∷ past) s number)
+
+    by : (b : Bool) → is_base s number d ≡ b → Before → head_dirty (d ∷ past) s number ≡ false
+        → (base_or_none (d ∷ past) s number).shown.header ≡ (shown_in (d ∷ past) s number).header
+    by true here before = rw here (λ none. refl)
+    by false other before = rw other (λ none.
+        let parts = neither (head_dirty past s number) touched none in
+        before parts.0 ∙ head_touched-exact (shown_in past s number) (shown_in (d ∷ past) s number) parts.1)
+
+pub sorted_base : (past : List Answered) (s number : ℕ) → IsSorted (base_or_none past s number).shown
+sorted_base [] s number = sorted_nothing
+sorted_base (d ∷ past) s number = by (is_base s number d) refl (sorted_base past s number)
+  where
+    by : (b : Bool) → is_base s number d ≡ b → IsSorted (base_or_none past s number).shown → IsSorted (base_or_none (d ∷ past) s number).shown
+    by true here before = rw here (sorted_by_view (d ∷ past) (held (d ∷ past) s number))
+    by false other before = rw other before
+
+pub record Kept (past : List Answered) (s number : ℕ) : Type 0 where
+  pub folds : folded_in past s number ≡ base past s number
+  pub based : is_some (held past s number) ≡ true → is_some (base past s number) ≡ true
+
+same_held : (a b : Shown) (v w e f : ℕ) → a ≡ b → v ≡ w → e ≡ f
+    → let x : Held = record { shown = a; mark = record { version = v; edit = e } } in x ≡ record { shown = b; mark = record { version = w; edit = f } }
+same_held a b v w e f p q r = cc
+
+-- the base is there where it isn't none
+based_at : (past : List Answered) (s number : ℕ) → is_some (base past s number) ≡ true → base past s number ≡ Some (base_or_none past s number)
+based_at past s number some = by (base past s number) some
+  where
+    by : (o : Option Held) → is_some o ≡ true → o ≡ Some (unwrap_or o no_base)
+    by None h = absurd (let wrong : false ≡ true = h in cc)
+    by (Some held) h = refl
+
+-- a delta that is taken folds into the base
+delta_folds : (past : List Answered) (s number : ℕ) → is_some (held past s number) ≡ true → Kept past s number
+    → option_and_then (fold_in (delta_in past s number)) (folded_in past s number) ≡ Some (record { shown = shown_in past s number; mark = mark_in past s number })
+delta_folds past s number some kept =
+    let was : Held = base_or_none past s number in
+    let restored = delta_restores was.shown (shown_in past s number) (dirty past s number) (head_dirty past s number) was.mark (mark_in past s number)
+    (sorted_base past s number) (sorted_by_view past (held past s number)) (agree_since past s number) (headers_since past s number) in
+    let now : folded_in past s number ≡ Some was = kept.folds ∙ based_at past s number (kept.based some) in
+    rw now (rw restored.0 (ap Some restored.1))
+
+-- where a step is the base of a view, what a client holds of it is what is shown then
+folds_base : (past : List Answered) (s n at number : ℕ) (request : Ask) (answer : Body) → Says past s request answer → at ≡ version_after past answer
+    → tells_of number answer ≡ true → Kept past s number
+    → folded_after number at answer (folded_in past s number)
+    ≡ Some (record { shown = shown_in (step s request n at answer ∷ past) s number; mark = mark_in (step s request n at answer ∷ past) s number })
+folds_base past s n at number (ask.open_view plan bound) (body.Opened edit shown view) says version here kept =
+    let after = step s (ask.open_view plan bound) n at (body.Opened edit shown view) ∷ past in
+    let ours : is_view s number (opened_view s view plan bound) ≡ true = rw (eq-eqb s s refl, here) refl in
+    let some : is_some (held after s number) ≡ true =
+    has_is_any (is_view s number) (views after) ∙ any_more (is_view s number) (views past) (opened_view s view plan bound)
+    ∙ or_right (list_any (is_view s number) (views past)) _ ours in
+    let all : shown_in after s number ≡ flat_view (schema_or_none past) (rows past) = shown_of_some after (held after s number) some in
+    rw here (ap Some (same_held _ _ _ _ _ _ (says.2 ∙ sym all) version (says.1 ∙ sym (no_edit after s number))))
+folds_base past s n at number _ (body.Opened edit shown view) says version here kept = absurd says.0
+folds_base past s n at number request (body.Resync bound edit shown view) says version here kept =
+    let same : view ≡ number = eqb-true view number here in
+    rw here (ap Some (same_held _ _ _ _ _ _ (says.1 ∙ ap (λ i. shown_in past s i) same) version (says.0 ∙ ap (λ i. edit_by (held past s i)) same)))
+folds_base past s n at number request (body.Delta delta view) says version here kept =
+    let same : view ≡ number = eqb-true view number here in
+    let is : delta ≡ delta_in past s number = says.1 ∙ ap (λ i. delta_in past s i) same in
+    let some : is_some (held past s number) ≡ true = ap (λ i. is_some (held past s i)) (sym same) ∙ says.0 in
+    rw (here, is) (delta_folds past s number some kept)
+folds_base past s n at number request _ says version here kept = absurd (let wrong : false ≡ true = here in cc)
+
+-- where it isn't, that stays
+folds_other : (number at : ℕ) (answer : Body) (was : Option Held) → tells_of number answer ≡ false → folded_after number at answer was ≡ was
+folds_other number at (body.Opened edit shown view) was other = rw other refl
+folds_other number at (body.Delta delta view) was other = rw other refl
+folds_other number at (body.Resync bound edit shown view) was other = rw other refl
+folds_other number at _ was other = refl
+
+and_false : (a b : Bool) → (a && b) ≡ false → (a ≡ false) ⊎ (b ≡ false)
+and_false true b h = inr h
+and_false false b h = inl refl
+
+and_true : (a b : Bool) → (a && b) ≡ true → (a ≡ true) × (b ≡ true)
+and_true true b h = (refl, h)
+and_true false b h = absurd (let wrong : false ≡ true = h in cc)
+
+stays_folded : (past : List Answered) (session n at s number : ℕ) (request : Ask) (answer : Body) → is_base s number (step session request n at answer) ≡ false
+    → folded_in (step session request n at answer ∷ past) s number ≡ folded_in past s number
+stays_folded past session n at s number request answer other = by (eqb session s) refl
+  where
+    by : (ours : Bool) → eqb session s ≡ ours → cond ours (folded_after number at answer (folded_in past s number)) (folded_in past s number) ≡ folded_in past s number
+    by false is = refl
+    by true is = elim (and_false (tells_of number answer) (eqb session s) other) [
+      | inl untold ↦ folds_other number at answer (folded_in past s number) untold
+      | inr theirs ↦ absurd (let wrong : true ≡ false = sym is ∙ theirs in cc)
+    ]
+
+kept_at_base : (past : List Answered) (session n at s number : ℕ) (request : Ask) (answer : Body) → Says past session request answer → at ≡ version_after past answer
+    → is_base s number (step session request n at answer) ≡ true → Kept past s number → Kept (step session request n at answer ∷ past) s number
+kept_at_base past session n at s number request answer says version here kept =
+    let after = step session request n at answer ∷ past in
+    let parts = and_true (tells_of number answer) (eqb session s) here in
+    let ours : session ≡ s = eqb-true session s parts.1 in
+    let SaysOf : ℕ → Type 0 = λ i. Says past i request answer in
+    record {
+      folds = rw (here, parts.1) (rw ours (folds_base past s n at number request answer (subst SaysOf ours says) version parts.0 kept));
+      based = λ some. rw here refl;
+    }
+
+kept_between : (past : List Answered) (session n at s number : ℕ) (request : Ask) (answer : Body)
+    → is_base s number (step session request n at answer) ≡ false → Kept past s number → Kept (step session request n at answer ∷ past) s number
+kept_between past session n at s number request answer other kept =
+    let after = step session request n at answer ∷ past in
+    record {
+      folds = stays_folded past session n at s number request answer other ∙ kept.folds ∙ (rw other refl);
+      based = λ some. elim (held_before past session n at request answer s number some) [
+        | inl here ↦ absurd (let wrong : true ≡ false = sym here ∙ other in cc)
+        | inr before ↦ rw other (kept.based before)
+      ];
+    }
+
+kept_step : (past : List Answered) (session n at s number : ℕ) (request : Ask) (answer : Body) → Says past session request answer → at ≡ version_after past answer
+    → Kept past s number → Kept (step session request n at answer ∷ past) s number
+kept_step past session n at s number request answer says version kept = by (is_base s number (step session request n at answer)) refl
+  where
+    by : (b : Bool) → is_base s number (step session request n at answer) ≡ b → Kept (step session request n at answer ∷ past) s number
+    by true here = kept_at_base past session n at s number request answer says version here kept
+    by false other = kept_between past session n at s number request answer other kept
+
+pub kept : (limit : ℕ) (h : List Entry) (s number : ℕ) → Kept (answered limit h) s number
+kept limit [] s number = record {
+  folds = refl;
+  based = λ some. some;
+}
+kept limit (e ∷ h) s number =
+    let past = answered limit h in
+    let reply : Reply = answer_to limit past e.session e.request e.choice in
+    kept_step past e.session reply.n reply.version s number e.request reply.body (says_answer limit past e.session e.request e.choice) refl (kept limit h s number)
+
+pub deltas_fold : DeltasFold
+deltas_fold limit h session number = (kept limit h session number).folds
+
+-- ---- a step that changes neither rows nor views touches nothing
+
+pub touches_nothing : (past : List Answered) (rows : List PlacedRow) (s number : ℕ) → with_keys (dirty past s number) (touched_keys rows rows) ≡ dirty past s number
+touches_nothing past rows s number = ap (with_keys (dirty past s number)) (touched_keys-itself rows)
+
+pub touches_no_header : (past : List Answered) (shows : Shown) (s number : ℕ) → (head_dirty past s number || head_touched shows shows) ≡ head_dirty past s number
+touches_no_header past shows s number = ap (λ b. head_dirty past s number || b) (head_touched-itself shows) ∙ or_false_right (head_dirty past s number)
+
+pub same_folded : (past : List Answered) (session n at s number : ℕ) (request : Ask) (why : Refusal)
+    → folded_in (step session request n at (body.Refused why) ∷ past) s number ≡ folded_in past s number
+same_folded past session n at s number request why = by (eqb session s)
+  where
+    by : (b : Bool) → cond b (folded_in past s number) (folded_in past s number) ≡ folded_in past s number
+    by true = refl
+    by false = refl
