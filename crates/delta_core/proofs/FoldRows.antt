@@ -1,21 +1,17 @@
 -- The rows after a delta may be shown together.
-use Rattle.std.proofs.Common.{◌≡◌, ◌≢◌, ℕ, Bool, true, false, ◌||◌, not, List, [], ◌∷◌, ◌++◌, map, filter, fold, get_or, take, drop, Option, Some, None, refl, sym, ap, ◌∙◌, subst}
+use Rattle.std.proofs.Common.{◌≡◌, ◌≢◌, ℕ, Bool, true, false, ◌||◌, not, List, [], ◌∷◌, ◌++◌, map, filter, fold, get_or, take, drop, refl, sym, ap, ◌∙◌, subst}
 use Rattle.std.proofs.lemmas.List.{append-nil, map-append, take-append-drop}
 use Rattle.std.proofs.lemmas.List.Elements.{All-nil, All-cons, All-head, All-tail, All-map, All-push, All-weaker, filter_passes}
 use Rattle.std.specs.List.{All, list_any}
-use Rattle.std.specs.Option.{option_or}
 use Rattle.plain_data.specs.Distinct.{AreDistinct}
 use Rattle.view_types.proofs.KeyOrder.{same_key_itself}
 use Rattle.view_types.specs.Keys.{same_key}
 use Rattle.view_types.specs.Rows.{AreShownRows, IsMarked}
 use Rattle.view_types.specs.declared.key.ViewKey.{ViewKey}
 use Rattle.view_types.specs.declared.shown.ShownRow.{ShownRow}
-use Rattle.delta_core.specs.Folding.{drops, fold_fault, folded_rows, gap, absent, keys_put, past_end, put_in, RefusesFold}
+use Rattle.delta_core.specs.Folding.{drops, folded_rows, keys_put, put_in}
 use Rattle.delta_core.specs.KeySets.{is_among}
 use Rattle.delta_core.specs.Rows.{has_row}
-use Rattle.delta_core.specs.declared.folding.FoldRefused.{FoldRefused}
-use Rattle.delta_core.specs.declared.folding.FoldRefused.TheVariants.{Gap, Absent, Past, Memory}
-use Rattle.delta_core.specs.declared.folding.Held.{Held}
 use Rattle.delta_core.specs.declared.delta.Delta.{Delta}
 use Rattle.delta_core.specs.declared.delta.Put.{Put}
 use Rattle.delta_core.proofs.DistinctRows.{All-insert, All-unmap, AreDistinct-insert, AreShownRows-filter}

@@ -12,13 +12,12 @@ use Rattle.view_types.specs.declared.shown.HeaderColumn.{HeaderColumn}
 use Rattle.view_types.specs.declared.shown.Shown.{Shown}
 use Rattle.view_types.specs.declared.shown.ShownRow.{ShownRow}
 use Rattle.delta_core.specs.Deltas.{delta_of, removed_keys, puts_from, sent}
-use Rattle.delta_core.specs.Folding.{drops, fold_fault, folded, keys_put, past_end, put_in, is_same_mark}
+use Rattle.delta_core.specs.Folding.{drops, keys_put, past_end, put_in, is_same_mark}
 use Rattle.delta_core.specs.KeySets.{is_among}
 use Rattle.delta_core.specs.Laws.{Agree, Ascends, DeltasRestore, FoldsTo, IsOneWay, RestsAreEqual, key_in, rest, row_in}
 use Rattle.delta_core.specs.Rows.{at_key, has_row}
 use Rattle.delta_core.specs.declared.delta.Mark.{Mark}
 use Rattle.delta_core.specs.declared.delta.Put.{Put}
-use Rattle.delta_core.specs.declared.folding.Held.{Held}
 use Rattle.view_types.proofs.KeyOrder.{same_key_is_equal, same_key_itself}
 use Rattle.delta_core.proofs.KeyLemmas.{same_key-symm, same_key-other}
 

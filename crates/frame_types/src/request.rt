@@ -65,8 +65,8 @@ pub enum Request {
     Apply {
         port: u64,
     },
-    /// Opens a view. The plan is judged against the schema; `bound` is the most changed rows that
-    /// a delta of the view may have.
+    /// Opens a view. The plan is judged against the schema; `bound` is the most keys of the
+    /// view that may be touched since its base before a take shows all rows anew.
     Open {
         plan: Raw,
         bound: u64,

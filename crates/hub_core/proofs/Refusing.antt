@@ -28,7 +28,7 @@ pub not_pushed : {X Y E : Type 0} (r : Result X E) (after more same : List Y) �
 not_pushed (Ok x) after more same e h = absurd (let wrong : false ≡ true = e in cc)
 not_pushed (Err y) after more same e h = h
 
--- what `?` answers
+-- what an early return of an error answers
 pub err_body : (r : Result Body Refusal) (why : Refusal) → IsErr r × IsErrAnd r (λ e. e ≡ why) → body_in r ≡ body.Refused why
 err_body (Ok b) why h = absurd (let wrong : false ≡ true = h.0 in cc)
 err_body (Err e) why h = ap body.Refused h.1

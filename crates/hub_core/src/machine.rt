@@ -10,7 +10,7 @@ use std::alloc::Global;
 use std::sync::ledger::Ledger;
 use table_core::Table;
 
-/// The number of sessions: 64 of clients, the pump's, and the one that stops the desk.
+/// The number of sessions, 0 to 65. Those of clients are 0 to 63.
 pub const SESSIONS: usize = 66;
 
 /// What a hub holds besides its counts of requests: the table, its ports and the views.

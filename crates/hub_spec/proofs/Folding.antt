@@ -1,9 +1,9 @@
 -- What a client holds that folds each delta is what the view showed at its base.
 use Rattle.std.proofs.Common.{◌≡◌, ℕ, ◌+◌, eqb, Bool, true, false, ◌||◌, ◌&&◌, cond, List, [], ◌∷◌, ◌++◌, length, map, filter, fold, find, All, Option, Some, None, refl, sym, ap, ◌∙◌, subst, ◌⊎◌, inl, inr}
-use Rattle.std.specs.Prelude.{is_some, is_none, not, unwrap_or, option_and_then}
+use Rattle.std.specs.Prelude.{is_some, not, unwrap_or, option_and_then}
 use Rattle.std.specs.List.{list_any}
 use Rattle.std.proofs.lemmas.Bool.{eqb-true, eq-eqb}
-use Rattle.std.proofs.lemmas.List.Elements.{All-nil, All-cons, All-head, All-tail, All-map, All-weaker, All-push, All-filter}
+use Rattle.std.proofs.lemmas.List.Elements.{All-nil, All-head, All-tail, All-map, All-weaker, All-push, All-filter}
 use Rattle.std.proofs.lemmas.List.Folds.{list_any-append}
 use Rattle.cell_core.specs.Schemas.{SchemaData}
 use Rattle.plain_data.specs.Distinct.{AreDistinct}
@@ -18,24 +18,21 @@ use Rattle.frame_types.specs.declared.reply.Refusal.{Refusal}
 use Rattle.frame_types.specs.declared.reply.Reply.{Reply}
 use Rattle.view_types.specs.declared.key.ViewKey.{ViewKey}
 use Rattle.view_types.specs.declared.shown.Shown.{Shown}
-use Rattle.delta_core.specs.Deltas.{delta_of, marked}
-use Rattle.delta_core.specs.Folding.{fold_fault, folded}
 use Rattle.delta_core.specs.KeySets.{is_among, with_keys}
 use Rattle.delta_core.specs.Laws.{Agree}
 use Rattle.delta_core.specs.declared.delta.Delta.{Delta}
-use Rattle.delta_core.specs.declared.delta.Mark.{Mark}
 use Rattle.delta_core.specs.declared.folding.Held.{Held}
 use Rattle.delta_core.proofs.KeySetLemmas.{is_among-with_keys}
 use Rattle.plain_view.specs.Flat.{flat_view}
 use Rattle.plain_view.specs.Touching.{PlacedRow, head_touched, key_of, placed, touched_keys}
 use Rattle.plain_view.proofs.TouchLaws.{IsSorted, sorted_view, sorted_nothing, touched_agree, touched_keys-itself, head_touched-exact, head_touched-itself, delta_restores}
 use Rattle.hub_spec.specs.Answered.{Answered}
-use Rattle.hub_spec.specs.Bases.{base, base_or_none, delta_in, dirty, edit_by, fold_in, folded_after, folded_in, head_dirty, is_base, mark_in, no_base, nothing_shown, placed_in, shown_by, shown_in, tells_of}
+use Rattle.hub_spec.specs.Bases.{base, base_or_none, delta_in, dirty, edit_by, fold_in, folded_after, folded_in, head_dirty, is_base, mark_in, no_base, placed_in, shown_by, shown_in, tells_of}
 use Rattle.hub_spec.specs.HeldViews.{HeldView, held, is_view, lost_at, opened_view, views, with_view}
 use Rattle.hub_spec.specs.Histories.{Entry, answered, answer_to}
 use Rattle.hub_spec.specs.Laws.{DeltasFold}
 use Rattle.hub_spec.specs.Ports.{Applied, applied, version_after}
-use Rattle.hub_spec.specs.Rows.{put_applied, rows, schema_or_none, store}
+use Rattle.hub_spec.specs.Rows.{put_applied, rows, schema_or_none}
 use Rattle.hub_spec.proofs.Said.{Says, says_answer}
 
 -- ---- no key stands twice among the rows

@@ -2,9 +2,10 @@
 //!
 //! `specs/` has, from below: histories with their answers (`Answered`), the batch that a request asks
 //! for (`Reading`), ports and their batches (`Ports`), the table's rows (`Rows`), the views that are
-//! held (`HeldViews`), what was told of a view and touched since (`Bases`), the answer where memory is plenty (`Answers`), choices and legal histories
-//! (`Histories`), and runs (`Runs`). The only functions are laws: functions that do nothing, whose
-//! contracts say what holds of every history. `proofs/Worked.antt` computes answers of short ones.
+//! held (`HeldViews`), what was told of a view and touched since (`Bases`), the answer where memory is
+//! plenty (`Answers`), choices and legal histories (`Histories`), and runs (`Runs`). The only functions
+//! are laws: functions that do nothing, whose contracts say what holds of every history.
+//! `proofs/Worked.antt` computes answers of short ones.
 //! `Caller` is what a loop over requests asks of whatever answers them.
 #![tactic(auto)]
 
@@ -29,9 +30,9 @@ pub fn refusals_change_nothing()
     ensures { RefusalsChangeNothing }
 {}
 
-/// A client that begins with a view's opening, folds in each delta of it and takes each resynchronisation
-/// holds what the view showed at the last of them, with its mark, and no delta is refused. It does nothing, and
-/// its contract is the law.
+/// A client that begins with a view's opening, folds in each delta of it and takes each
+/// resynchronisation holds what the view showed at the last of them, with its mark, and no delta is
+/// refused. It does nothing, and its contract is the law.
 pub fn deltas_fold()
     ensures { DeltasFold }
 {}
