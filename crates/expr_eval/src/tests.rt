@@ -173,6 +173,76 @@ fn functions_of_one_null(rt: HostRuntime) -> Result<(), Fail> {
     Ok(())
 }
 
+/// What a function gives on one cell.
+fn value_of(alloc: Global, name: &str, cell: Cell) -> Result<Cell, Memory>
+    requires { IsOnCalendar cell }
+{
+    let form = call_one(alloc, name, column(alloc)?)?;
+    value_on(alloc, form, cell)
+}
+
+#[test]
+fn functions_of_one_cell(rt: HostRuntime) -> Result<(), Fail> {
+    let alloc = rt.alloc();
+    assert_eq!(rt; value_of(alloc, "abs", Cell::Int(-7))?, Cell::Int(7));
+    assert_eq!(rt;
+        value_of(alloc, "year", Cell::Date(19_782))?,
+        Cell::Int(2024)
+    );
+    assert_eq!(rt; value_of(alloc, "month", Cell::Date(19_782))?, Cell::Int(2));
+    assert_eq!(rt; value_of(alloc, "day", Cell::Date(19_782))?, Cell::Int(29));
+    assert_eq!(rt;
+        value_of(alloc, "date_of", Cell::Moment(-1))?,
+        Cell::Date(-1)
+    );
+    assert_eq!(rt; value_of(alloc, "hour", Cell::Moment(-1))?, Cell::Int(23));
+    assert_eq!(rt;
+        value_of(alloc, "is_null", Cell::Int(0))?,
+        Cell::Bool(false)
+    );
+    assert_eq!(rt;
+        value_of(alloc, "is_not_null", Cell::Int(0))?,
+        Cell::Bool(true)
+    );
+    Ok(())
+}
+
+#[test]
+fn the_less_and_the_greater_of_two(rt: HostRuntime) -> Result<(), Fail> {
+    let alloc = rt.alloc();
+    let least = call_two(alloc, "min", column(alloc)?, number(1))?;
+    assert_eq!(rt; value_on(alloc, least, Cell::Int(-3))?, Cell::Int(-3));
+    let greatest = call_two(alloc, "max", column(alloc)?, number(1))?;
+    assert_eq!(rt; value_on(alloc, greatest, Cell::Int(-3))?, Cell::Int(1));
+    Ok(())
+}
+
+/// What a function gives on two texts.
+fn value_of_texts(alloc: Global, name: &str, a: &str, b: &str) -> Result<Cell, Memory> {
+    let form = call_two(alloc, name, words(alloc, a)?, words(alloc, b)?)?;
+    value_on(alloc, form, Cell::Null)
+}
+
+#[test]
+fn functions_of_two_texts(rt: HostRuntime) -> Result<(), Fail> {
+    let alloc = rt.alloc();
+    let cases = [
+        ("contains", "abc", "b", true),
+        ("contains", "abc", "ac", false),
+        ("begins", "abc", "ab", true),
+        ("begins", "abc", "b", false),
+        ("ends", "abc", "bc", true),
+        ("ends", "abc", "b", false),
+    ];
+    for (name, a, b, want) in cases {
+        let value = value_of_texts(alloc, name, a, b)?;
+        assert_eq!(rt; value, Cell::Bool(want), "{name} {a} {b}");
+    }
+    let joined = value_of_texts(alloc, "concat", "né", "e")?;
+    assert_eq!(rt; joined, Cell::Words(Text::from_str(alloc, "née")?));
+    Ok(())
+}
+
 #[test]
 fn functions_of_a_null_and_a_number(rt: HostRuntime) -> Result<(), Fail> {
     let alloc = rt.alloc();

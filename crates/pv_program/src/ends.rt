@@ -2,7 +2,7 @@ ghost use Rattle.std.specs.Prelude.{◌≡◌, ◌≤◌, None};
 ghost use Rattle.io_ends.specs.Causes.{one_more};
 
 use io_ends::{Sink, SinkFault, Source, SourceFailed};
-use std::io::{ErrorKind, Read, Write};
+use std::io::{Read, Write};
 
 /// A reader of the outside as a source. It tells nothing of what the reader holds.
 #[derive(Drop)]

@@ -17,13 +17,14 @@ use std::process::ExitCode;
 use std::{env, io};
 use top::{Status, pv_main};
 
-/// The words after the program's name, where they are text.
-fn words_given(rt: &HostRuntime) -> Option<Vec<String>> {
+/// The words after the program's name, or the status to end with where they can't be read or kept.
+fn words_given(rt: &HostRuntime) -> Result<Vec<String>, Status> {
+    let given = env::args(rt).map_err(|_| Status { code: 2 })?;
     let mut words = Vec::new(rt.alloc());
-    for word in env::args(rt).ok()?.skip(1) {
-        words.push(word).ok()?;
+    for word in given.skip(1) {
+        words.push(word).map_err(|_| Status { code: 1 })?;
     }
-    Some(words)
+    Ok(words)
 }
 
 fn run<S: Source, K: Sink>(
@@ -45,8 +46,8 @@ fn main(rt: HostRuntime) -> ExitCode {
     let mut source = Input::new(rt.reader());
     let mut sink = Output::new(io::writer(&rt));
     let status = match words_given(&rt) {
-        Some(words) => run(rt.alloc(), words.as_slice(), &mut source, &mut sink),
-        None => Status { code: 2 },
+        Ok(words) => run(rt.alloc(), words.as_slice(), &mut source, &mut sink),
+        Err(status) => status,
     };
     if status.code == 2 {
         let _ = eprintln!(rt; "usage: pv script < REQUESTS");
