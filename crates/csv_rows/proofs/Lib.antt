@@ -1,3 +1,4 @@
 pub mod NumberLemmas
 pub mod Taken
 pub mod RecordLemmas
+pub mod NameLemmas

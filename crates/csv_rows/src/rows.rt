@@ -1,6 +1,5 @@
 ghost use Rattle.std.specs.Prelude.{◌≡◌, [], IfOk, IfErr, Ok};
-ghost use Rattle.std.specs.List.{list_all, list_any};
-ghost use Rattle.std.specs.Str.{bytes_eq};
+ghost use Rattle.std.specs.List.{list_all};
 ghost use Rattle.row_batch.specs.Checks.{IsChecked};
 ghost use Rattle.row_batch.specs.Reading.{RefusesRows};
 ghost use Rattle.row_batch.specs.declared.batch.Batch.TheVariants as batch;
@@ -9,10 +8,14 @@ ghost use Rattle.csv_rows.specs.Reading.{are_even, field_of, header_fault, read_
 
 use crate::fields::field_of;
 use crate::records::records;
-use cell_core::{Listed, Numbers, Schema, Text, Texts};
+use cell_core::{Listed, Memory, Numbers, Schema, Text, Texts};
 use row_batch::{BatchRefused, MAX_BATCH, Patch, Patches, RowCause, RowsRefused};
 use row_cells::{placed, refused, too_many};
 use std::alloc::Global;
+use std::collections::BTreeMap;
+
+/// Names that were found.
+type Names<'n> = BTreeMap<&'n str, ()>;
 
 /// Reads the rows of a text of CSV. The first record names columns, each later one is a row, and a column that
 /// isn't named keeps its cells. An empty field is null. The answer is the patches in the order of the rows, the
@@ -43,7 +46,7 @@ fn read_records(alloc: Global, schema: &Schema, records: &[Texts]) -> Result<Pat
     if !are_even(names.len(), rows) {
         return Err(refused(RowCause::Csv, Numbers::Zero));
     }
-    if let Some(why) = header_fault(schema, names.as_slice()) {
+    if let Some(why) = header_fault(alloc, schema, names.as_slice())? {
         return Err(RowsRefused::Bad(why));
     }
     if rows.len() > MAX_BATCH {
@@ -59,36 +62,35 @@ fn are_even(count: usize, rows: &[Texts]) -> bool
     rows.iter().all(|fields| fields.len() == count)
 }
 
-/// The first cause against the header's names.
-fn header_fault(schema: &Schema, names: &[Text]) -> Option<BatchRefused>
-    ensures { result ≡ header_fault schema.now.columns names.now }
+/// The first cause against the header's names, or want of memory.
+fn header_fault(
+    alloc: Global,
+    schema: &Schema,
+    names: &[Text],
+) -> Result<Option<BatchRefused>, Memory>
+    ensures { IfOk result (λ why. why ≡ header_fault schema.now.columns names.now) }
 {
-    let twice = twice(names);
+    let twice = twice(alloc, names)?;
     if twice.is_some() {
-        return twice;
+        return Ok(twice);
     }
-    unknown(schema, names)
+    Ok(unknown(schema, names))
 }
 
-/// The first name that stands earlier too.
-fn twice(names: &[Text]) -> Option<BatchRefused>
-    ensures { result ≡ twice_from [] 0 names.now }
+/// The first name that stands earlier too. Each name is looked up once among those before it.
+fn twice(alloc: Global, names: &[Text]) -> Result<Option<BatchRefused>, Memory>
+    ensures { IfOk result (λ why. why ≡ twice_from [] 0 names.now) }
 {
-    for i in 0..names.len() {
-        if is_among(&names[..i], &names[i]) {
-            return Some(BatchRefused {
+    let mut found = Names::new(alloc);
+    for (i, name) in names.iter().enumerate() {
+        if found.insert(name.as_str(), ())?.is_some() {
+            return Ok(Some(BatchRefused {
                 cause: RowCause::Twice,
                 at: Numbers::One(i as u64),
-            });
+            }));
         }
     }
-    None
-}
-
-fn is_among(names: &[Text], name: &Text) -> bool
-    ensures { result ≡ list_any (λ other. bytes_eq other name.now) names.now }
-{
-    names.iter().any(|other| other.as_str() == name.as_str())
+    Ok(None)
 }
 
 /// A name that is no column.

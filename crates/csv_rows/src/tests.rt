@@ -40,6 +40,11 @@ fn texts_are_refused(rt: HostRuntime) -> Result<(), Fail> {
         ("\u{feff}\n", RowCause::Header, whole),
         ("k,k\n1\n", RowCause::Csv, whole),
         ("k,x,k\n", RowCause::Twice, Numbers::One(2)),
+        (
+            "k,a,b,c,d,e,f,g,h,i,j,l,m,n,o,p,q,k,a\n",
+            RowCause::Twice,
+            Numbers::One(17),
+        ),
         ("k,x\n1.5,2\n", RowCause::Unknown, whole),
         ("b\n7\n", RowCause::Index, Numbers::One(0)),
         ("b,k\n7,\n", RowCause::Index, Numbers::One(0)),
