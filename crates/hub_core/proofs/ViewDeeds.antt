@@ -140,18 +140,6 @@ rows_refused m past session view first end t h is missing =
     let gone : is_none (held.held past session view) ≡ true = is_not_held past _ (found_is m past session view h ∙ missing) in
     refused_does m past session (ask.rows view first end) (plain_in past session (ask.rows view first end)) no_view h (rw (some, gone) refl) refl
 
-abbrev the_rest : Option held.HeldView → (held.HeldView → Shown) → ℕ → ℕ → ℕ → Body
-the_rest o shows view first end = first_of (lost_view o ∷ (ltb end first, bad_window first end) ∷ []) (window_of o shows view first end)
-
--- the answer for a view that is held
-rows_is : (m : Machine) (past : List Answered) (session view first end : ℕ) (t : TableData) (v : View)
-    → Holds m past → m.table ≡ Some t → find (is_kept session view) m.views.items ≡ Some v
-    → plain_in past session (ask.rows view first end) ≡ the_rest (held.held past session view) (held.shown past) view first end
-rows_is m past session view first end t v h is found =
-    let some : ports.schema past ≡ Some t.schema = table_made m past t h is in
-    let held_one : is_none (held.held past session view) ≡ false = is_held past _ v (found_is m past session view h ∙ found) in
-    rw (some, held_one) refl
-
 -- the view of which that is kept
 held_one : (past : List Answered) (o : Option held.HeldView) (v : View) → option_map (kept_view past) o ≡ Some v
     → (w : held.HeldView) × (o ≡ Some w) × (kept_view past w ≡ v)
@@ -166,71 +154,98 @@ live_by : (past : List Answered) (w : held.HeldView) (o : Option ℕ) (live : Li
 live_by past w None live e = (refl, let same : live_of past w ≡ live = cc in same)
 live_by past w (Some at) live e = absurd (cc)
 
-lost_of_held : (past : List Answered) (o : Option held.HeldView) (v : View) (shows : held.HeldView → Shown) (view first end version : ℕ)
-    → option_map (kept_view past) o ≡ Some v → v.state ≡ Lost version
-    → the_rest o shows view first end ≡ body.Refused (view_lost version)
-lost_of_held past o v shows view first end version e was =
-    let one = held_one past o v e in
-    let lost : one.0.lost ≡ Some version = lost_by past one.0 one.0.lost version (ap (λ x. x.state) one.2 ∙ was) in
-    rw (one.1, lost) refl
+-- the view that is held under that number
+held_there : (m : Machine) (past : List Answered) (session view : ℕ) (v : View) → Holds m past → find (is_kept session view) m.views.items ≡ Some v
+    → (w : held.HeldView) × (held.held past session view ≡ Some w) × (kept_view past w ≡ v)
+held_there m past session view v h found = held_one past (held.held past session view) v (found_is m past session view h ∙ found)
+
+-- what a live view has under its session and number
+abbrev live_at : List Answered → ℕ → ℕ → ℕ → LiveView
+live_at past session view bound =
+    let was = base_or_none past session view in
+    record {
+      shown = shown_in past session view;
+      base = was.mark;
+      dirty = dirty_of bound (marked was.shown.rows (dirty past session view)) (head_dirty past session view);
+    }
+
+-- a live view has what is under its session and number
+live_is : (past : List Answered) (session view : ℕ) (w : held.HeldView) (v : View) (live : LiveView)
+    → held.held past session view ≡ Some w → kept_view past w ≡ v → v.state ≡ Live live → live ≡ live_at past session view v.bound
+live_is past session view w v live found kept was =
+    let lives = live_by past w w.lost live (ap (λ x. x.state) kept ∙ was) in
+    let ours = found_is_one session view (held.views past) w found in
+    sym lives.1 ∙ ap (λ s. live_at past s w.number w.bound) ours.0 ∙ ap (λ n. live_at past session n w.bound) ours.1
+    ∙ ap (live_at past session view) (ap (λ x. x.bound) kept)
+
+-- what it shows is what the view shows
+live_shows : (past : List Answered) (session view : ℕ) (w : held.HeldView) (v : View) (live : LiveView)
+    → held.held past session view ≡ Some w → kept_view past w ≡ v → v.state ≡ Live live → live.shown ≡ held.shown past w
+live_shows past session view w v live found kept was =
+    ap (λ l. l.shown) (live_is past session view w v live found kept was) ∙ ap (shown_by past) found
 
 -- a view that was lost
 pub rows_lost : (m : Machine) (past : List Answered) (session view first end version : ℕ) (t : TableData) (v : View)
     → Holds m past → m.table ≡ Some t → find (is_kept session view) m.views.items ≡ Some v → v.state ≡ Lost version
     → Does past session (ask.rows view first end) (body.Refused (view_lost version)) m
 rows_lost m past session view first end version t v h is found was =
-    let kept : option_map (kept_view past) (held.held past session view) ≡ Some v = found_is m past session view h ∙ found in
-    refused_does m past session (ask.rows view first end) (plain_in past session (ask.rows view first end)) (view_lost version) h
-    (rows_is m past session view first end t v h is found ∙ lost_of_held past (held.held past session view) v (held.shown past) view first end version kept was) refl
-
-window_refused : (past : List Answered) (o : Option held.HeldView) (v : View) (live : LiveView) (shows : held.HeldView → Shown) (view first end : ℕ)
-    → option_map (kept_view past) o ≡ Some v → v.state ≡ Live live → ltb end first ≡ true
-    → the_rest o shows view first end ≡ body.Refused (bad_window first end)
-window_refused past o v live shows view first end e lives back =
-    let one = held_one past o v e in
-    let lost : one.0.lost ≡ None = (live_by past one.0 one.0.lost live (ap (λ x. x.state) one.2 ∙ lives)).0 in
-    rw (one.1, lost, back) refl
+    let some : ports.schema past ≡ Some t.schema = table_made m past t h is in
+    let one = held_there m past session view v h found in
+    let lost : one.0.lost ≡ Some version = lost_by past one.0 one.0.lost version (ap (λ x. x.state) one.2 ∙ was) in
+    refused_does m past session (ask.rows view first end) (plain_in past session (ask.rows view first end)) (view_lost version) h (rw (some, one.1, lost) refl) refl
 
 -- a window that ends before it begins
 pub rows_backwards : (m : Machine) (past : List Answered) (session view first end : ℕ) (t : TableData) (v : View) (live : LiveView)
     → Holds m past → m.table ≡ Some t → find (is_kept session view) m.views.items ≡ Some v → v.state ≡ Live live → ltb end first ≡ true
     → Does past session (ask.rows view first end) (body.Refused (bad_window first end)) m
-rows_backwards m past session view first end t v live h is found lives back =
-    let kept : option_map (kept_view past) (held.held past session view) ≡ Some v = found_is m past session view h ∙ found in
-    refused_does m past session (ask.rows view first end) (plain_in past session (ask.rows view first end)) (bad_window first end) h
-    (rows_is m past session view first end t v h is found ∙ window_refused past (held.held past session view) v live (held.shown past) view first end kept lives back) refl
+rows_backwards m past session view first end t v live h is found was back =
+    let some : ports.schema past ≡ Some t.schema = table_made m past t h is in
+    let one = held_there m past session view v h found in
+    let lives : one.0.lost ≡ None = (live_by past one.0 one.0.lost live (ap (λ x. x.state) one.2 ∙ was)).0 in
+    refused_does m past session (ask.rows view first end) (plain_in past session (ask.rows view first end)) (bad_window first end) h (rw (some, one.1, lives, back) refl) refl
 
-kept_of_held : (past : List Answered) (o : Option held.HeldView) (v : View) (live : LiveView) (shows : held.HeldView → Shown) (shown : Shown) (view first end : ℕ)
-    → option_map (kept_view past) o ≡ Some v → v.state ≡ Live live → ltb end first ≡ false → ((w : held.HeldView) → shows w ≡ shown)
-    → the_rest o shows view first end ≡ body.Rows v.edit first (window first end shown) (length shown.rows) view
-kept_of_held past o v live shows shown view first end e lives ordered same =
-    let one = held_one past o v e in
+abbrev the_rest : Option held.HeldView → (held.HeldView → Shown) → ℕ → ℕ → ℕ → Body
+the_rest o shows view first end = first_of ((is_none o, no_view) ∷ lost_view o ∷ (ltb end first, bad_window first end) ∷ []) (window_of o shows view first end)
+
+rest_is : (w : held.HeldView) (shows : held.HeldView → Shown) (view first end : ℕ) → w.lost ≡ None → ltb end first ≡ false
+    → the_rest (Some w) shows view first end ≡ body.Rows w.edit first (window first end (shows w)) (length (shows w).rows) view
+rest_is w shows view first end lives ordered = rw (lives, ordered) refl
+
+-- the window of a view that is held and live
+rows_plain : (m : Machine) (past : List Answered) (session view first end : ℕ) (t : TableData) (v : View) (live : LiveView)
+    → Holds m past → m.table ≡ Some t → find (is_kept session view) m.views.items ≡ Some v → v.state ≡ Live live → ltb end first ≡ false
+    → plain_in past session (ask.rows view first end) ≡ body.Rows v.edit first (window first end live.shown) (length live.shown.rows) view
+rows_plain m past session view first end t v live h is found was ordered =
+    let one = held_there m past session view v h found in
+    let o : Option held.HeldView = held.held past session view in
+    let lives : one.0.lost ≡ None = (live_by past one.0 one.0.lost live (ap (λ x. x.state) one.2 ∙ was)).0 in
     let edit : one.0.edit ≡ v.edit = ap (λ x. x.edit) one.2 in
-    let lost : one.0.lost ≡ None = (live_by past one.0 one.0.lost live (ap (λ x. x.state) one.2 ∙ lives)).0 in
-    rw (one.1, same one.0, edit, lost, ordered) refl
+    let shows : held.shown past one.0 ≡ live.shown = sym (live_shows past session view one.0 v live one.1 one.2 was) in
+    passes (is_none (ports.schema past)) no_table ((is_none o, no_view) ∷ lost_view o ∷ (ltb end first, bad_window first end) ∷ [])
+    (window_of o (held.shown past) view first end) (ap is_none (table_made m past t h is))
+    ∙ ap (λ (x : Option held.HeldView). the_rest x (held.shown past) view first end) one.1
+    ∙ rest_is one.0 (held.shown past) view first end lives ordered
+    ∙ ap (λ e. body.Rows e first (window first end (held.shown past one.0)) (length (held.shown past one.0).rows) view) edit
+    ∙ ap (λ (s : Shown). body.Rows v.edit first (window first end s) (length s.rows) view) shows
 
 pub rows_wants : (m : Machine) (past : List Answered) (session view first end : ℕ) (t : TableData) (v : View) (live : LiveView)
     → Holds m past → m.table ≡ Some t → find (is_kept session view) m.views.items ≡ Some v → v.state ≡ Live live → ltb end first ≡ false
     → Does past session (ask.rows view first end) (body.Refused memory) m
-rows_wants m past session view first end t v live h is found lives ordered =
-    let kept : option_map (kept_view past) (held.held past session view) ≡ Some v = found_is m past session view h ∙ found in
-    let shown : Shown = flat_view t.schema t.store.pairs in
+rows_wants m past session view first end t v live h is found was ordered =
     wanted_does m past session (ask.rows view first end) (plain_in past session (ask.rows view first end)) h
-    (ap (may_choose past (ask.rows view first end) want) (rows_is m past session view first end t v h is found
-    ∙ kept_of_held past (held.held past session view) v live (held.shown past) shown view first end kept lives ordered (λ w. shows_rows m past t w h is)))
+    (ap (may_choose past (ask.rows view first end) want) (rows_plain m past session view first end t v live h is found was ordered))
 
 pub rows_does : (m : Machine) (past : List Answered) (session view first end : ℕ) (t : TableData) (part : Shown) (size : ℕ) (v : View) (live : LiveView)
     → Holds m past → m.table ≡ Some t → find (is_kept session view) m.views.items ≡ Some v → v.state ≡ Live live → ltb end first ≡ false
-    → part ≡ window first end (flat_view t.schema t.store.pairs) → size ≡ length (flat_view t.schema t.store.pairs).rows
+    → part ≡ window first end live.shown → size ≡ length live.shown.rows
     → Does past session (ask.rows view first end) (body.Rows v.edit first part size view) m
-rows_does m past session view first end t part size v live h is found lives ordered cut counted =
-    let shown : Shown = flat_view t.schema t.store.pairs in
-    let kept : option_map (kept_view past) (held.held past session view) ≡ Some v = found_is m past session view h ∙ found in
-    let plain : plain_in past session (ask.rows view first end) ≡ body.Rows v.edit first (window first end shown) (length shown.rows) view =
-    rows_is m past session view first end t v h is found
-    ∙ kept_of_held past (held.held past session view) v live (held.shown past) shown view first end kept lives ordered (λ w. shows_rows m past t w h is) in
+rows_does m past session view first end t part size v live h is found was ordered cut counted =
     record {
-      given = record { right = ap (λ p. body.Rows v.edit first p size view) cut ∙ ap (λ k. body.Rows v.edit first (window first end shown) k view) counted ∙ sym plain; allowed = refl };
+      given = record {
+        right = ap (λ p. body.Rows v.edit first p size view) cut ∙ ap (λ k. body.Rows v.edit first (window first end live.shown) k view) counted
+            ∙ sym (rows_plain m past session view first end t v live h is found was ordered);
+        allowed = refl;
+      };
       holds = λ n version. record {
         table = record { schema = h.table.schema; kept = h.table.kept; version = h.table.version; bare = h.table.bare };
         ports = record { made = h.ports.made; live = h.ports.live; within = h.ports.within; unmade = h.ports.unmade };
@@ -294,11 +309,6 @@ take_refused m past session view wait t h is missing =
     let gone : is_none (held.held past session view) ≡ true = is_not_held past _ (found_is m past session view h ∙ missing) in
     refused_does m past session (ask.take view wait) (plain_in past session (ask.take view wait)) no_view h (rw (some, gone) refl) refl
 
--- the view that is held under that number
-held_there : (m : Machine) (past : List Answered) (session view : ℕ) (v : View) → Holds m past → find (is_kept session view) m.views.items ≡ Some v
-    → (w : held.HeldView) × (held.held past session view ≡ Some w) × (kept_view past w ≡ v)
-held_there m past session view v h found = held_one past (held.held past session view) v (found_is m past session view h ∙ found)
-
 pub take_lost : (m : Machine) (past : List Answered) (session view : ℕ) (wait : Bool) (version : ℕ) (t : TableData) (v : View)
     → Holds m past → m.table ≡ Some t → find (is_kept session view) m.views.items ≡ Some v → v.state ≡ Lost version
     → Does past session (ask.take view wait) (body.Refused (view_lost version)) m
@@ -336,16 +346,6 @@ take_wants m past session view wait t v live h is found was =
     told_wants past view wait true delta bound edit shown = refl
     told_wants past view wait false delta bound edit shown = refl
 
--- what a live view has under its session and number
-abbrev live_at : List Answered → ℕ → ℕ → ℕ → LiveView
-live_at past session view bound =
-    let was = base_or_none past session view in
-    record {
-      shown = shown_in past session view;
-      base = was.mark;
-      dirty = dirty_of bound (marked was.shown.rows (dirty past session view)) (head_dirty past session view);
-    }
-
 told_plenty : (few : Bool) (delta : Delta) (bound edit : ℕ) (shown : Shown) (view : ℕ) → choice_of (told_body few delta bound edit shown view) ≡ plenty
 told_plenty true delta bound edit shown view = refl
 told_plenty false delta bound edit shown view = refl
@@ -381,10 +381,8 @@ take_does m past session view wait t v live mark views answer h is found was mar
     let one = held_there m past session view v h found in
     let w : held.HeldView = one.0 in
     let lives = live_by past w w.lost live (ap (λ x. x.state) one.2 ∙ was) in
-    let ours = found_is_one session view (held.views past) w one.1 in
     let bound : w.bound ≡ v.bound = ap (λ x. x.bound) one.2 in
-    let has : live ≡ live_at past session view v.bound =
-    sym lives.1 ∙ ap (λ s. live_at past s w.number w.bound) ours.0 ∙ ap (λ n. live_at past session n w.bound) ours.1 ∙ ap (live_at past session view) bound in
+    let has : live ≡ live_at past session view v.bound = live_is past session view w v live one.1 one.2 was in
     let was_at = base_or_none past session view in
     let keys : List (ViewKey × Bool) = marked was_at.shown.rows (dirty past session view) in
     let header : Bool = head_dirty past session view in

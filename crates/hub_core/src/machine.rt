@@ -93,7 +93,7 @@ impl Machine {
             Request::Apply { port } => self.apply(port, steps),
             Request::Open { plan, bound } => self.open(session, plan, bound, steps),
             Request::Take { view, wait: _ } => self.take(session, view),
-            Request::Rows { view, from, to } => self.rows(session, view, from, to, steps),
+            Request::Rows { view, from, to } => self.rows(session, view, from, to),
             Request::Close { view } => self.close(session, view),
             Request::Unread(why) => Err(refused::unread(why)),
         }

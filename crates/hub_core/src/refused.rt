@@ -3,8 +3,11 @@ ghost use Rattle.frame_types.specs.Refusals as refusals;
 ghost use Rattle.hub_core.specs.Refusing.{rows_refusal};
 ghost use Rattle.frame_types.specs.declared.reply.Cause.TheVariants as cause;
 
-use cell_core::{Numbers, SchemaCause};
+use crate::views::MAX_VIEWS;
+use cell_core::{MAX_ROWS, Numbers, SchemaCause};
 use frame_types::{Cause, FrameCause, Refusal};
+use hub_ports::MAX_PORTS;
+use port_queue::MAX_WAITING;
 use row_batch::{BatchRefused, RowCause, RowsRefused};
 
 fn refused(code: u8, cause: Cause, at: Numbers) -> Refusal
@@ -63,7 +66,7 @@ pub fn bad_schema(why: SchemaCause, at: Numbers) -> Refusal
 pub fn too_many_ports() -> Refusal
     ensures { result ≡ refusals.too_many_ports }
 {
-    refused(4, Cause::TooManyPorts, Numbers::One(16))
+    refused(4, Cause::TooManyPorts, Numbers::One(MAX_PORTS as u64))
 }
 
 /// No port of that number was made.
@@ -122,14 +125,14 @@ pub fn not_indexed() -> Refusal
 pub fn port_full() -> Refusal
     ensures { result ≡ refusals.port_full }
 {
-    refused(9, Cause::PortFull, Numbers::One(64))
+    refused(9, Cause::PortFull, Numbers::One(MAX_WAITING as u64))
 }
 
 /// With the batch the table might have so many rows.
 pub fn table_full(would: u64) -> Refusal
     ensures { result ≡ refusals.table_full would }
 {
-    refused(10, Cause::TableFull, Numbers::Two(would, 65536))
+    refused(10, Cause::TableFull, Numbers::Two(would, MAX_ROWS as u64))
 }
 
 /// As many requests were answered as the history may have.
@@ -150,7 +153,7 @@ pub fn empty() -> Refusal
 pub fn too_many_views() -> Refusal
     ensures { result ≡ refusals.too_many_views }
 {
-    refused(14, Cause::TooManyViews, Numbers::One(16))
+    refused(14, Cause::TooManyViews, Numbers::One(MAX_VIEWS as u64))
 }
 
 /// The session holds no view of that number.

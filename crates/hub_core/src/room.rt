@@ -1,4 +1,4 @@
-ghost use Rattle.std.specs.Prelude.{◌≡◌, ℕ, List, [], ◌∷◌, ◌++◌, ◌+◌, ◌<◌, map, length, IfOk, IfSome, OnOk};
+ghost use Rattle.std.specs.Prelude.{◌≡◌, List, [], ◌∷◌, ◌++◌, ◌+◌, map, IfOk, IfSome, OnOk};
 ghost use Rattle.std.specs.List.{flat_map, list_any};
 ghost use Rattle.cell_core.specs.Cells.{same_cell};
 ghost use Rattle.cell_core.specs.declared.cell.Cell.{Cell};
@@ -10,7 +10,6 @@ ghost use Rattle.hub_core.specs.Rooms.{IsCounted, over, room_taken};
 
 use crate::machine::Machine;
 use cell_core::{Cell, Keeping, MAX_ROWS, Memory, Steps};
-use hub_ports::Port;
 use port_queue::PortQueue;
 use row_batch::{Batch, Patch, PatchCell};
 use std::alloc::Global;

@@ -183,7 +183,10 @@ fn a_full_history_stays(rt: HostRuntime) -> Result<(), Fail> {
     drop(caller.call(0, Request::Port));
     let full = "3 0 Refused(Refusal { code: 11, cause: HistoryFull, at: One(2) })";
     says(&rt, alloc, &mut caller, 0, Request::Apply { port: 0 }, full)?;
-    says(&rt, alloc, &mut caller, 0, Request::Apply { port: 0 }, full)
+    says(&rt, alloc, &mut caller, 0, Request::Apply { port: 0 }, full)?;
+    let hub = caller.end();
+    assert_eq!(rt; hub.entries(), 2);
+    Ok(())
 }
 
 /// What the opening of a view shows, with its mark.

@@ -16,7 +16,7 @@ use crate::views::{
 use cell_core::{Raw, RawMap, Steps};
 use delta_core::Mark;
 use frame_types::{Body, Refusal};
-use plain_view::{show, show_window};
+use plain_view::show;
 use std::sync::ledger::Ledger;
 
 impl Machine {
@@ -95,29 +95,24 @@ impl Machine {
     }
 
     /// Shows the rows of a view at positions `from` up to and without `to`.
-    pub fn rows<L: Ledger>(
-        &mut self,
-        session: u32,
-        view: u64,
-        from: u64,
-        to: u64,
-        steps: &mut Steps<L>,
-    ) -> Result<Body, Refusal>
+    pub fn rows(&mut self, session: u32, view: u64, from: u64, to: u64) -> Result<Body, Refusal>
         ensures { (past : List Answered) → Holds self.old past → length past < 2 ^ 53
             → Does past session (ask.rows view from to) (body_in result) self.new }
     {
-        let table = self.table()?;
+        let _table = self.table()?;
         let Some(held) = find_view(self.views.as_slice(), session, view) else {
             return Err(refused::no_view());
         };
-        if let ViewState::Lost(version) = held.state {
-            return Err(refused::view_lost(version));
-        }
+        let live = match &held.state {
+            ViewState::Live(live) => live,
+            ViewState::Lost(version) => return Err(refused::view_lost(*version)),
+        };
         if to < from {
             return Err(refused::bad_window(from, to));
         }
         let edit = held.edit;
-        let Ok((shown, size)) = show_window(self.alloc, table, from, to, steps) else {
+        let size = live.shown.size() as u64;
+        let Ok(shown) = live.shown.window(self.alloc, from, to) else {
             return Err(refused::memory());
         };
         Ok(Body::Rows {

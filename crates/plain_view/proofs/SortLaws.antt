@@ -1,5 +1,5 @@
 -- Sorting by an order, and the entries of a map into which the items go one by one.
-use Rattle.std.proofs.Common.{◌≡◌, ◌≢◌, ℕ, suc, ◌+◌, ◌<◌, List, [], ◌∷◌, length, get_or, take, map, cond, true, false, Ordering, Less, Equal, Greater, refl, sym, ◌∙◌, ap, subst, arith}
+use Rattle.std.proofs.Common.{◌≡◌, ◌≢◌, ℕ, ◌+◌, ◌<◌, List, [], ◌∷◌, length, get_or, take, map, cond, true, false, Ordering, Less, Equal, Greater, refl, sym, ◌∙◌, ap, subst}
 use Rattle.std.specs.BTreeMap.{insert_entry}
 use Rattle.std.specs.List.{All, fold}
 use Rattle.std.specs.Ordering.{is_lt, match_ordering}
@@ -25,22 +25,6 @@ All-fold P order sorted (x ∷ xs) a h =
 
 pub All-sorted_by : {X : Type 0} (P : X → Type 0) (order : X → X → Ordering) (xs : List X) → All P xs → All P (sorted_by order xs)
 All-sorted_by P order xs h = All-fold P order [] xs (All-nil P) h
-
-pub length-insert_by : {X : Type 0} (order : X → X → Ordering) (x : X) (ys : List X) → length (insert_by order x ys) ≡ suc (length ys)
-length-insert_by order x [] = refl
-length-insert_by order x (y ∷ ys) =
-    elim (is_lt (order x y)) as (λ b. length (cond b (x ∷ y ∷ ys) (y ∷ insert_by order x ys)) ≡ suc (suc (length ys))) [
-      | true ↦ refl
-      | false ↦ ap suc (length-insert_by order x ys)
-    ]
-
-length-fold : {X : Type 0} (order : X → X → Ordering) (sorted xs : List X) → length (fold (λ sorted x. insert_by order x sorted) sorted xs) ≡ length sorted + length xs
-length-fold order sorted [] = omega arith
-length-fold order sorted (x ∷ xs) =
-    omega (arith, length-fold order (insert_by order x sorted) xs, length-insert_by order x sorted)
-
-pub length-sorted_by : {X : Type 0} (order : X → X → Ordering) (xs : List X) → length (sorted_by order xs) ≡ length xs
-length-sorted_by order xs = omega (arith, length-fold order [] xs)
 
 -- the front that has one more item
 pub sorted_by_more : {X : Type 0} (order : X → X → Ordering) (xs : List X) (i : ℕ) (d : X) → i < length xs → sorted_by order (take (i + 1) xs) ≡ insert_by order (get_or xs i d) (sorted_by order (take i xs))

@@ -1,15 +1,16 @@
-ghost use Rattle.std.specs.Prelude.{◌≡◌, IfOk};
+ghost use Rattle.std.specs.Prelude.{◌≡◌, ◌-◌, IfOk, drop, length, take};
 ghost use Rattle.std.specs.Option.{option_copied};
 ghost use Rattle.view_types.specs.Rows.{AreShownRows};
 ghost use Rattle.delta_core.specs.Rows.{row_at};
 ghost use Rattle.plain_view.specs.ByKey.{GivesPositions};
+ghost use Rattle.plain_view.specs.Flat.{window};
 
-use cell_core::{Copies, Memory};
+use cell_core::{Copies, Listed, Memory};
 use delta_core::ShownNow;
 use std::alloc::Global;
 use std::collections::BTreeMap;
 use std::marker::Model;
-use view_types::{Header, Shown, ShownRow, ViewKey};
+use view_types::{Header, Shown, ShownRow, ShownRows, ViewKey};
 
 /// Positions of shown rows under their keys, counted from 0.
 type Positions = BTreeMap<ViewKey, usize>;
@@ -48,6 +49,26 @@ impl ShownByKey {
         ensures { result.now ≡ self.now }
     {
         &self.shown
+    }
+
+    /// How many rows are shown.
+    pub fn size(&self) -> usize
+        ensures { result ≡ length self.now.rows }
+    {
+        self.shown.rows.as_slice().len()
+    }
+
+    /// The rows at positions from `from` up to and without `to`, under the same header. Positions are counted
+    /// from 0. Those past the last row have none, and neither has a window whose `to` is not past its `from`.
+    /// Rows outside the window are not copied.
+    ///
+    /// Want of memory is the only refusal.
+    pub fn window(&self, alloc: Global, from: u64, to: u64) -> Result<Shown, Memory>
+        ensures { IfOk result (λ part. part ≡ window from to self.now) }
+    {
+        let header = self.shown.header.copies(alloc)?;
+        let rows = rows_between(alloc, self.shown.rows.as_slice(), from, to)?;
+        Ok(Shown { header, rows })
     }
 
     /// The row with that key, and none exactly where no row has it.
@@ -91,4 +112,26 @@ fn positions_of(alloc: Global, rows: &[ShownRow]) -> Result<Positions, Memory>
         drop(positions.insert(row.key.copy(alloc)?, position)?);
     }
     Ok(positions)
+}
+
+/// Copies of the rows at positions from `from` up to and without `to`.
+fn rows_between(alloc: Global, rows: &[ShownRow], from: u64, to: u64) -> Result<ShownRows, Memory>
+    requires { AreShownRows rows.now }
+    ensures { IfOk result (λ copies. copies ≡ take (to - from) (drop from rows.now)) }
+{
+    let part = rows_at(rows, from, to);
+    let mut copies = Vec::new(alloc);
+    for row in part {
+        copies.push(row.copies(alloc)?)?;
+    }
+    Ok(ShownRows::from_listed(Listed::from_vec(copies)))
+}
+
+/// The rows at positions from `from` up to and without `to`, as far as there are any.
+fn rows_at(rows: &[ShownRow], from: u64, to: u64) -> &[ShownRow]
+    ensures { result.now ≡ take (to - from) (drop from rows.now) }
+{
+    let rest = &rows[(from as usize).min(rows.len())..];
+    let count = to.saturating_sub(from) as usize;
+    &rest[..count.min(rest.len())]
 }

@@ -1,8 +1,8 @@
-ghost use Rattle.std.specs.Prelude.{◌≡◌, ◌+◌, ◌-◌, ◌<◌, IfOk, OnOk, length, map, take, drop};
+ghost use Rattle.std.specs.Prelude.{◌≡◌, ◌+◌, ◌<◌, IfOk, OnOk, length, map, take};
 ghost use Rattle.plain_data.specs.Sorting.{sorted_by};
 ghost use Rattle.plain_data.specs.Distinct.{AreDistinct};
 ghost use Rattle.row_batch.specs.Tables.{keys_of_rows};
-ghost use Rattle.plain_view.specs.Flat.{by_place, cells_of, flat_view, window};
+ghost use Rattle.plain_view.specs.Flat.{by_place, cells_of, flat_view};
 ghost use Rattle.plain_view.specs.Rows.{flat_row};
 
 use crate::cells::{header_of, shown_cells};
@@ -23,32 +23,11 @@ type ByKey = BTreeMap<Cell, ShownCells>;
 pub fn show<L: Ledger>(alloc: Global, table: &Table, steps: &mut Steps<L>) -> Result<Shown, Memory>
     ensures { IfOk result (λ shown. shown ≡ flat_view table.now.schema table.now.store.pairs) }
 {
-    let size = table.size() as u64;
-    let (shown, _size) = show_window(alloc, table, 0, size, steps)?;
-    Ok(shown)
-}
-
-/// The rows at positions from `first` up to and without `end` of what `show` gives, under the same
-/// header, and the number of all rows. Positions past the last row have none, and neither have those
-/// of a window whose `end` is not past its `first`. `steps` counts the visits of rows.
-///
-/// Want of memory is the only refusal.
-pub fn show_window<L: Ledger>(
-    alloc: Global,
-    table: &Table,
-    first: u64,
-    end: u64,
-    steps: &mut Steps<L>,
-) -> Result<(Shown, u64), Memory>
-    ensures shown { IfOk result (λ w. w.0 ≡ window first end (flat_view table.now.schema table.now.store.pairs)) }
-    ensures size { IfOk result (λ w. w.1 ≡ length (flat_view table.now.schema table.now.store.pairs).rows) }
-{
     let columns = table.schema().columns();
     let header = header_of(alloc, columns)?;
     let by_key = cells_by_key(alloc, columns, table, steps)?;
-    let size = by_key.len() as u64;
-    let rows = rows_between(alloc, by_key, first, end)?;
-    Ok((Shown { header, rows }, size))
+    let rows = rows_of(alloc, by_key)?;
+    Ok(Shown { header, rows })
 }
 
 /// Each row's values under its key.
@@ -92,30 +71,20 @@ fn put_row<L: Ledger>(
     Ok(())
 }
 
-/// The rows at positions from `first` up to and without `end`, ascending by key.
-fn rows_between(alloc: Global, by_key: ByKey, first: u64, end: u64) -> Result<ShownRows, Memory>
-    ensures { IfOk result (λ rows. rows
-        ≡ map (λ e. flat_row e.0 e.1) (take (end - first) (drop first by_key.entries))) }
+/// The rows, ascending by key.
+fn rows_of(alloc: Global, by_key: ByKey) -> Result<ShownRows, Memory>
+    ensures { IfOk result (λ rows. rows ≡ map (λ e. flat_row e.0 e.1) by_key.entries) }
 {
     let _ascending = by_key.len();
-    let count = end.saturating_sub(first) as usize;
-    let rows = collected(alloc, by_key, first as usize, count)?;
+    let rows = collected(alloc, by_key)?;
     Ok(ShownRows::from_listed(Listed::from_vec(rows)))
 }
 
-fn collected(
-    alloc: Global,
-    by_key: ByKey,
-    first: usize,
-    count: usize,
-) -> Result<Vec<ShownRow>, AllocError>
-    ensures { IfOk result (λ rows. rows.items
-        ≡ map (λ e. flat_row e.0 e.1) (take count (drop first by_key.entries))) }
+fn collected(alloc: Global, by_key: ByKey) -> Result<Vec<ShownRow>, AllocError>
+    ensures { IfOk result (λ rows. rows.items ≡ map (λ e. flat_row e.0 e.1) by_key.entries) }
 {
     by_key
         .into_iter()
-        .skip(first)
-        .take(count)
         .map(|(key, cells)| flat_row(key, cells))
         .collect(alloc)
 }

@@ -5,9 +5,10 @@
 //! `flat_view` of `specs/Flat.antt`, which takes the table's rows sorted by place, and no order in which
 //! the table has them makes a difference. The time is that of a sort, whatever that order is.
 //!
-//! `ShownByKey` is what is shown with a map of the positions, of which deltas can be made. `touched` gives
-//! `touched_keys` of `specs/Touching.antt`, each key beside whether it was shown before, and
-//! `head_touched`. It looks each row of either view up in the other, and never goes over a view for a key.
+//! `ShownByKey` is what is shown with a map of the positions, of which deltas can be made; its `window`
+//! copies the rows at some positions, and no others. `touched` gives `touched_keys` of
+//! `specs/Touching.antt`, each key beside whether it was shown before, and `head_touched`. It looks each
+//! row of either view up in the other, and never goes over a view for a key.
 #![tactic(auto)]
 
 mod by_key;
@@ -19,6 +20,6 @@ mod tests;
 mod touching;
 
 pub use by_key::ShownByKey;
-pub use flat::{show, show_window};
+pub use flat::show;
 pub use laws::order_of_rows_is_free;
 pub use touching::touched;

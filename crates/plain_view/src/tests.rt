@@ -1,6 +1,6 @@
 ghost use Rattle.std.specs.Prelude.{◌≡◌, ◌<◌, IfOk};
 
-use crate::{ShownByKey, show, show_window, touched};
+use crate::{ShownByKey, show, touched};
 use cell_core::{Cell, ColumnWords, Listed, Schema, Steps, Text};
 use delta_core::{ShownNow, Touched};
 use row_batch::{Batch, Patch, PatchCell, Patches, check, is_shaped};
@@ -101,23 +101,10 @@ fn shown_by<L: Ledger>(alloc: Global, table: &Table, blank: Blank) -> Result<Sho
     Ok(show(alloc, table, &mut steps)?)
 }
 
-fn window(alloc: Global, table: &Table, first: u64, end: u64) -> Result<(Shown, u64), Fail> {
-    window_by::<Brand>(alloc, table, first, end, Blank::new(1))
-}
-
-fn window_by<L: Ledger>(
-    alloc: Global,
-    table: &Table,
-    first: u64,
-    end: u64,
-    blank: Blank,
-) -> Result<(Shown, u64), Fail>
-    requires name { blank.name ≡ L.name }
-    requires parts { blank.parts ≡ L.parts }
-    requires some { 0 < L.parts }
-{
-    let mut steps = Steps::<L>::make(blank);
-    Ok(show_window(alloc, table, first, end, &mut steps)?)
+/// A window of what a view of the table shows, and the number of all its rows.
+fn window(alloc: Global, table: &Table, first: u64, end: u64) -> Result<(Shown, usize), Fail> {
+    let view = ShownByKey::of(alloc, shown(alloc, table)?)?;
+    Ok((view.window(alloc, first, end)?, view.size()))
 }
 
 #[test]
@@ -170,7 +157,7 @@ fn a_thousand_rows_ascend(rt: HostRuntime) -> Result<(), Fail> {
 }
 
 /// Whether a window has the keys from `key` on, as many as `count`, and tells the number of all rows.
-fn has_keys(window: &(Shown, u64), key: i64, count: usize, size: usize) -> bool {
+fn has_keys(window: &(Shown, usize), key: i64, count: usize, size: usize) -> bool {
     let (shown, all) = window;
     let mut want = key;
     for row in shown.rows.as_slice() {
@@ -179,7 +166,7 @@ fn has_keys(window: &(Shown, u64), key: i64, count: usize, size: usize) -> bool 
         }
         want = want.wrapping_add(1);
     }
-    shown.header.len() == 1 && shown.rows.as_slice().len() == count && *all == size as u64
+    shown.header.len() == 1 && shown.rows.as_slice().len() == count && *all == size
 }
 
 #[test]
