@@ -111,6 +111,12 @@ day_number-some y m d s e =
       | inr not ↦ absurd (let e₂ = rw not at e in cc)
     ]
 
+-- a day of the calendar is in range
+pub day_number-range : (y m d : ℕ) (s : ℤ) → day_number y m d ≡ Some s → IsDay s
+day_number-range y m d s e =
+    let is = day_number-some y m d s e in
+    rw (sym is.number) (is_day y m d is.calendar)
+
 pub date_of-some : (t : List ℕ) (s : ℤ) → date_of t ≡ Some s → IsDateText t s
 date_of-some t s e =
     elim (cases_Bool (fits (codes "dddd-dd-dd") t)) [

@@ -4,6 +4,8 @@ ghost use Rattle.cal_units.specs.Calendar.{IsDay, IsMoment, year_of, month_of, d
 ghost use Rattle.cal_units.specs.Buckets.{IsDateUnit, IsDateBucket, IsMomentBucket, date_bucket, moment_bucket, floor_to};
 
 use crate::dates::date_at;
+use crate::day::Day;
+use crate::moment::Moment;
 
 const DAY: i64 = 86_400_000;
 
@@ -27,7 +29,15 @@ pub enum Unit {
 }
 
 /// The first day of the year, month, week or day that a day lies in.
-pub fn bucket_date(day: i32, unit: Unit) -> i32
+pub fn bucket_date(day: Day, unit: Unit) -> Day
+    requires unit { IsDateUnit unit }
+    ensures bucket { IsDateBucket unit day result }
+    ensures value { result ≡ date_bucket unit day }
+{
+    Day::of(unit_start(day.number(), unit))
+}
+
+fn unit_start(day: i32, unit: Unit) -> i32
     requires day { IsDay day }
     requires unit { IsDateUnit unit }
     ensures bucket { IsDateBucket unit day result }
@@ -45,25 +55,38 @@ fn year_start(day: i32) -> i32
     requires { IsDay day }
     ensures { result ≡ days_from_civil (pos (year_of day)) 1 1 }
 {
-    date_at(day).first_of_year().to_plain().to_unix_epoch_day()
+    date_at(Day::of(day))
+        .first_of_year()
+        .to_plain()
+        .to_unix_epoch_day()
 }
 
 fn month_start(day: i32) -> i32
     requires { IsDay day }
     ensures { result ≡ days_from_civil (pos (year_of day)) (month_of day) 1 }
 {
-    date_at(day).first_of_month().to_plain().to_unix_epoch_day()
+    date_at(Day::of(day))
+        .first_of_month()
+        .to_plain()
+        .to_unix_epoch_day()
 }
 
 fn week_start(day: i32) -> i32
     requires { IsDay day }
     ensures { result ≡ day -ℤ pos (weekday_number day) }
 {
-    day - i32::from(date_at(day).weekday().to_monday_zero_offset())
+    day - i32::from(date_at(Day::of(day)).weekday().to_monday_zero_offset())
 }
 
 /// The first millisecond of the year, month, .. or second that a moment lies in.
-pub fn bucket_moment(ms: i64, unit: Unit) -> i64
+pub fn bucket_moment(moment: Moment, unit: Unit) -> Moment
+    ensures bucket { IsMomentBucket unit moment result }
+    ensures value { result ≡ moment_bucket unit moment }
+{
+    Moment::of(unit_start_at(moment.number(), unit))
+}
+
+fn unit_start_at(ms: i64, unit: Unit) -> i64
     requires { IsMoment ms }
     ensures bucket { IsMomentBucket unit ms result }
     ensures value { result ≡ moment_bucket unit ms }

@@ -8,12 +8,8 @@ ghost use Rattle.cal_units.specs.MomentText.{clock_millis, clock_of, offset_of, 
 
 use crate::dates::read_date;
 use crate::digits::{fits, number};
-
-/// The milliseconds of 0001-01-01T00:00:00Z.
-pub const FIRST_MOMENT: i64 = -62_135_596_800_000;
-
-/// The milliseconds of the last millisecond of 9999-12-31, in UTC.
-pub const LAST_MOMENT: i64 = 253_402_300_799_999;
+use crate::moment::Moment;
+use std::fmt;
 
 const DAY: i64 = 86_400_000;
 
@@ -32,12 +28,21 @@ pub enum MomentRefused {
     OutOfRange,
 }
 
+impl fmt::Display for MomentRefused {
+    fn fmt<W: fmt::Write>(&self, f: &mut fmt::Formatter<W>) -> fmt::Result {
+        f.write_str(match self {
+            MomentRefused::NotAMoment => "not a datetime",
+            MomentRefused::OutOfRange => "a datetime before 0001-01-01 or after 9999-12-31",
+        })
+    }
+}
+
 /// Reads the date and time of ISO 8601 `YYYY-MM-DDThh:mm:ss`, then `.` and one to nine digits or
 /// neither, then `Z`, `+hh:mm` or `-hh:mm`. The date exists and its year is 0001 to 9999, hours are
 /// 00 to 23, and minutes and seconds 00 to 59, in the offset too. The answer is in whole
 /// milliseconds since 1970-01-01T00:00:00Z: digits after the third of the fraction are dropped, and
 /// then the offset is subtracted.
-pub fn read_moment(text: &[u8]) -> Result<i64, MomentRefused>
+pub fn read_moment(text: &[u8]) -> Result<Moment, MomentRefused>
     ensures value { result ≡ moment_of text.now }
     ensures moment { IfOk result (λ ms. IsMoment ms × (instant_of text.now ≡ Some ms)) }
     ensures not_a_moment { (result ≡ Err MomentRefused.NotAMoment) ↔ (instant_of text.now ≡ None) }
@@ -50,15 +55,11 @@ pub fn read_moment(text: &[u8]) -> Result<i64, MomentRefused>
     }
 }
 
-/// The moment itself, where it is in range.
-fn in_range(ms: i64) -> Result<i64, MomentRefused>
+/// The moment of so many milliseconds, where it is in range.
+fn in_range(ms: i64) -> Result<Moment, MomentRefused>
     ensures { result ≡ in_range (Some ms) }
 {
-    if FIRST_MOMENT <= ms && ms <= LAST_MOMENT {
-        Ok(ms)
-    } else {
-        Err(MomentRefused::OutOfRange)
-    }
+    Moment::try_of(ms).ok_or(MomentRefused::OutOfRange)
 }
 
 /// The moment of a text of the form, in range or not.
@@ -73,7 +74,7 @@ fn instant(text: &[u8]) -> Option<i64>
     };
     let clock = clock(&text[10..19])?;
     let rest = tail(&text[19..])?;
-    Some(i64::from(day) * DAY + i64::from(clock) + rest)
+    Some(i64::from(day.number()) * DAY + i64::from(clock) + rest)
 }
 
 /// The milliseconds since midnight of `Thh:mm:ss`.

@@ -1,8 +1,9 @@
 -- The order of cells is that of the derived comparison, is total, and tells each two cells apart.
-use Rattle.std.proofs.Common.{◌≡◌, Bool, true, false, Less, Equal, Greater, refl, sym, ap, ◌∙◌}
+use Rattle.std.proofs.Common.{◌≡◌, Less, Equal, Greater, refl, sym, ap, ◌∙◌}
 use Rattle.std.proofs.lemmas.Map.Lookups.{CmpEqualImpliesEq, exact_signed, exact_bytes}
 use Rattle.std.specs.Cmp.{IsTotalOrder}
-use Rattle.std.specs.Ordering.{ordering_reverse, bool_cmp}
+use Rattle.std.specs.Ordering.{ordering_reverse}
+use Rattle.value_core.specs.ValueLaws.{bool_cmp-exact}
 use Rattle.cell_core.specs.declared.cell.Cell.{Cell}
 use Rattle.cell_core.specs.declared.cell.Cell.TheVariants as cell
 use Rattle.cell_core.specs.Cells.{cell_order}
@@ -47,12 +48,6 @@ derived_order (cell.Words x) (cell.Date y) = refl
 derived_order (cell.Words x) (cell.Moment y) = refl
 derived_order (cell.Words x) (cell.Words y) = refl
 
-exact_bool : (x y : Bool) → bool_cmp x y ≡ Equal → x ≡ y
-exact_bool true true h = refl
-exact_bool false false h = refl
-exact_bool true false h = absurd (let wrong : Greater ≡ Equal = h in cc)
-exact_bool false true h = absurd (let wrong : Less ≡ Equal = h in cc)
-
 pub exact : CmpEqualImpliesEq cell_order
 exact cell.Null cell.Null h = refl
 exact cell.Null (cell.Bool y) h = absurd (let wrong : Less ≡ Equal = h in cc)
@@ -61,7 +56,7 @@ exact cell.Null (cell.Date y) h = absurd (let wrong : Less ≡ Equal = h in cc)
 exact cell.Null (cell.Moment y) h = absurd (let wrong : Less ≡ Equal = h in cc)
 exact cell.Null (cell.Words y) h = absurd (let wrong : Less ≡ Equal = h in cc)
 exact (cell.Bool x) cell.Null h = absurd (let wrong : Greater ≡ Equal = h in cc)
-exact (cell.Bool x) (cell.Bool y) h = ap cell.Bool (exact_bool x y h)
+exact (cell.Bool x) (cell.Bool y) h = ap cell.Bool (bool_cmp-exact x y h)
 exact (cell.Bool x) (cell.Int y) h = absurd (let wrong : Less ≡ Equal = h in cc)
 exact (cell.Bool x) (cell.Date y) h = absurd (let wrong : Less ≡ Equal = h in cc)
 exact (cell.Bool x) (cell.Moment y) h = absurd (let wrong : Less ≡ Equal = h in cc)

@@ -1,5 +1,5 @@
 -- The one total order of cells, and cells as shown values.
-use Rattle.std.specs.Prelude.{ℕ, Bool, Option, Some, None}
+use Rattle.std.specs.Prelude.{ℕ, Bool, true, false, Option, Some, None}
 use Rattle.std.specs.Cmp.Lexicographic.{slice_cmp}
 use Rattle.std.specs.declared.cmp.Ordering.{Ordering}
 use Rattle.std.specs.Ordering.{nat_cmp, int_cmp, bool_cmp, is_eq}
@@ -7,6 +7,10 @@ use Rattle.value_core.specs.declared.value.Value.{Value}
 use Rattle.value_core.specs.declared.value.Value.TheVariants as value
 use Rattle.cell_core.specs.declared.cell.Cell.{Cell}
 use Rattle.cell_core.specs.declared.cell.Cell.TheVariants as cell
+
+abbrev pub is_null : Cell → Bool
+is_null cell.Null = true
+is_null other = false
 
 -- null, boolean, whole number, fraction, date, datetime, text
 abbrev pub kind : Cell → ℕ

@@ -1,8 +1,10 @@
 -- Which columns make a schema, and which schema they make.
-use Rattle.std.specs.Prelude.{◌≡◌, ℕ, ◌+◌, ◌<◌, ◌≤◌, ℤ, pos, negsuc, nat_lt, ◌==◌, List, [], ◌∷◌, ◌++◌, length, codes, Bool, true, false, not, ◌&&◌, ◌||◌, Option, Some, None, Result, Ok, Err, is_some, is_none, option_map, unwrap_or, position, if◌then◌else◌}
+use Rattle.std.specs.Prelude.{◌≡◌, ℕ, ◌+◌, ◌<◌, ◌≤◌, ℤ, pos, negsuc, nat_lt, ◌==◌, List, [], ◌∷◌, ◌++◌, length, map, All, codes, Bool, true, false, not, ◌&&◌, ◌||◌, Option, Some, None, Result, Ok, Err, is_some, is_none, option_map, unwrap_or, position, if◌then◌else◌}
 use Rattle.std.specs.List.{filter_map}
 use Rattle.std.specs.Str.{bytes_eq}
+use Rattle.plain_data.specs.Distinct.{AreDistinct}
 use Rattle.plain_data.specs.Faults.{first_fault}
+use Rattle.cell_core.specs.Limits.{max_columns, max_name, max_rows}
 use Rattle.cell_core.specs.declared.cell.CellType.{CellType}
 use Rattle.cell_core.specs.declared.cell.CellType.TheVariants as kind
 use Rattle.cell_core.specs.declared.schema.ColumnWords.{ColumnWords}
@@ -38,7 +40,7 @@ type_name kind.Words = codes "string"
 
 -- a name has from 1 to 256 bytes
 abbrev pub is_bad_name : List ℕ → Bool
-is_bad_name name = length name == 0 || nat_lt 256 (length name)
+is_bad_name name = length name == 0 || nat_lt max_name (length name)
 
 abbrev pub is_named : List ℕ → ColumnWords → Bool
 is_named name c = bytes_eq c.name name
@@ -62,7 +64,7 @@ names_none columns (Some name) = not (stands_in columns name)
 -- a limit is from 1 to 65,536
 abbrev pub is_bad_limit : Option ℤ → Bool
 is_bad_limit None = false
-is_bad_limit (Some (pos n)) = n == 0 || nat_lt 65536 n
+is_bad_limit (Some (pos n)) = n == 0 || nat_lt max_rows n
 is_bad_limit (Some (negsuc n)) = true
 
 abbrev pub keeping_faults : List ColumnWords → Option (List ℕ) → Option ℤ → List (Bool × SchemaRefused)
@@ -75,7 +77,7 @@ keeping_faults columns index limit =
 abbrev pub schema_faults : List ColumnWords → Option (List ℕ) → Option ℤ → List (Bool × SchemaRefused)
 schema_faults columns index limit =
     (length columns == 0, Bad cause.NoColumns Zero)
-    ∷ (nat_lt 32 (length columns), Bad cause.TooManyColumns (One (length columns)))
+    ∷ (nat_lt max_columns (length columns), Bad cause.TooManyColumns (One (length columns)))
     ∷ (column_faults [] 0 columns ++ keeping_faults columns index limit)
 
 -- ---- the schema where there is no fault
@@ -114,10 +116,19 @@ RefusesSchema outcome Memory = Unit {0}
 
 abbrev pub IsKeeping : ℕ → Keeping → Type 0
 IsKeeping width (Indexed i) = i < width
-IsKeeping width (Limited n) = (0 < n) × (n ≤ 65536)
+IsKeeping width (Limited n) = (0 < n) × (n ≤ max_rows)
 IsKeeping width Free = Unit {0}
+
+abbrev pub names_of : List Column → List (List ℕ)
+names_of columns = map (λ c. c.name) columns
+
+-- a name of a column has from 1 to 256 bytes
+abbrev pub IsName : List ℕ → Type 0
+IsName name = (0 < length name) × (length name ≤ max_name)
 
 pub record IsSchema (s : SchemaData) : Type 0 where
   pub some : 0 < length s.columns
-  pub few : length s.columns ≤ 32
+  pub few : length s.columns ≤ max_columns
+  pub distinct : AreDistinct (names_of s.columns)
+  pub named : All IsName (names_of s.columns)
   pub keeping : IsKeeping (length s.columns) s.keeping

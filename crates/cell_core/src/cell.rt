@@ -1,6 +1,7 @@
 ghost use Rattle.std.specs.Prelude.{◌≡◌, IfOk};
 ghost use Rattle.cell_core.specs.Cells.{cell_order, value_of};
 
+use cal_units::{Day, Moment};
 use plain_data::{Copies, Listed, Memory, Text};
 use std::alloc::Global;
 use std::cmp::Ordering;
@@ -25,14 +26,14 @@ pub enum Cell {
     Bool(bool),
     /// From -(2^53-1) to 2^53-1 in a table.
     Int(i64),
-    /// Days since 1970-01-01; in a table from 0001-01-01 to 9999-12-31.
-    Date(i32),
-    /// Milliseconds since 1970-01-01T00:00:00Z; in a table from -62135596800000 to 253402300799999.
-    Moment(i64),
+    Date(Day),
+    /// A datetime.
+    Moment(Moment),
     /// At most 256 bytes in a table.
     Words(Text),
 }
 
+/// Cells of no certain row, as keys.
 pub type Cells = Listed<Cell>;
 
 /// A row's cells, one for each column of the schema.
@@ -95,7 +96,14 @@ impl Cell {
 }
 
 impl Cell {
-    ghost use Rattle.cell_core.specs.Cells.{kind};
+    ghost use Rattle.cell_core.specs.Cells.{is_null, kind};
+
+    /// Whether the cell has no value.
+    pub fn is_null(&self) -> bool
+        ensures { result ≡ is_null self.now }
+    {
+        matches!(self, Cell::Null)
+    }
 
     fn kind(&self) -> u8
         ensures { result ≡ kind self.now }

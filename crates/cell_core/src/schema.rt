@@ -1,23 +1,16 @@
 ghost use Rattle.std.specs.Prelude.{◌≡◌, ◌<◌, ◌≤◌, [], ◌∷◌, length, position, slice_get, option_map, Some, IfOk, IfErr};
 ghost use Rattle.std.specs.Str.{bytes_eq};
 ghost use Rattle.plain_data.specs.Faults.{first_fault};
-ghost use Rattle.cell_core.specs.Schemas.{type_named, type_name, column_faults, keeping_faults, schema_faults, keeping_of, typed_columns, outcome_of, schema_of, is_named, RefusesSchema, IsKeeping};
+ghost use Rattle.cell_core.specs.Schemas.{IsSchema, type_named, type_name, column_faults, keeping_faults, schema_faults, keeping_of, typed_columns, outcome_of, schema_of, is_named, RefusesSchema, IsKeeping};
 
 use crate::cell::CellType;
+use crate::limits::{MAX_COLUMNS, MAX_NAME, MAX_ROWS};
 use plain_data::{Listed, Memory, Text};
 use std::alloc::Global;
+use std::fmt;
 use std::marker::Model;
 
-/// The greatest number of columns.
-pub const MAX_COLUMNS: usize = 32;
-
-/// The most bytes of a column's name.
-pub const MAX_NAME: usize = 256;
-
-/// The greatest `limit` of a table, and the most rows of one without.
-pub const MAX_ROWS: u32 = 65536;
-
-/// The numbers that say where a refusal found its cause.
+/// The numbers that say where a refusal found its cause. They are written behind the cause, as `: 3, 1`.
 #[derive(Clone, Copy, Debug, Drop, PartialEq, Eq)]
 pub enum Numbers {
     Zero,
@@ -32,6 +25,7 @@ pub struct ColumnWords {
     pub kind: Text,
 }
 
+/// Columns as they are asked for, in the order of the table.
 pub type Columns = Listed<ColumnWords>;
 
 /// A column of a table.
@@ -68,10 +62,45 @@ pub enum SchemaCause {
     Limit,
 }
 
+/// Why there is no schema: the first cause against it, or want of memory.
 #[derive(Clone, Copy, Debug, Drop, PartialEq, Eq)]
 pub enum SchemaRefused {
     Bad { cause: SchemaCause, at: Numbers },
     Memory,
+}
+
+impl fmt::Display for Numbers {
+    fn fmt<W: fmt::Write>(&self, f: &mut fmt::Formatter<W>) -> fmt::Result {
+        match self {
+            Numbers::Zero => Ok(()),
+            Numbers::One(first) => write!(f, ": {first}"),
+            Numbers::Two(first, second) => write!(f, ": {first}, {second}"),
+        }
+    }
+}
+
+impl fmt::Display for SchemaCause {
+    fn fmt<W: fmt::Write>(&self, f: &mut fmt::Formatter<W>) -> fmt::Result {
+        f.write_str(match self {
+            SchemaCause::NoColumns => "no columns",
+            SchemaCause::TooManyColumns => "more than 32 columns",
+            SchemaCause::NameLength => "a column's name is empty or has more than 256 bytes",
+            SchemaCause::BadType => "a column's type is none",
+            SchemaCause::Twice => "a column's name stands twice",
+            SchemaCause::IndexAndLimit => "both an index and a limit",
+            SchemaCause::Index => "the index is no column",
+            SchemaCause::Limit => "the limit is not from 1 to 65536",
+        })
+    }
+}
+
+impl fmt::Display for SchemaRefused {
+    fn fmt<W: fmt::Write>(&self, f: &mut fmt::Formatter<W>) -> fmt::Result {
+        match self {
+            SchemaRefused::Bad { cause, at } => write!(f, "{cause}{at}"),
+            SchemaRefused::Memory => write!(f, "{}", Memory),
+        }
+    }
 }
 
 impl From<Memory> for SchemaRefused {
@@ -82,6 +111,39 @@ impl From<Memory> for SchemaRefused {
 
     fn from(_refused: Memory) -> SchemaRefused {
         SchemaRefused::Memory
+    }
+}
+
+impl Keeping {
+    ghost use Rattle.std.specs.Prelude.{◌≡◌, ◌↔◌, IsTrue};
+    ghost use Rattle.cell_core.specs.Keepings.{IsIndexed, is_indexed, key_column, is_key_column};
+
+    /// Whether rows are kept under an index column.
+    pub fn is_indexed(self) -> bool
+        ensures value { result ≡ is_indexed self }
+        ensures indexed { IsTrue result ↔ IsIndexed self }
+    {
+        matches!(self, Keeping::Indexed(_))
+    }
+
+    /// The number of the index column.
+    pub fn key_column(self) -> Option<usize>
+        ensures { result ≡ key_column self }
+    {
+        match self {
+            Keeping::Indexed(column) => Some(column),
+            Keeping::Limited(_) | Keeping::Free => None,
+        }
+    }
+
+    /// Whether that column is the index column.
+    pub fn is_key_column(self, column: usize) -> bool
+        ensures { result ≡ is_key_column self column }
+    {
+        match self {
+            Keeping::Indexed(key) => column == key,
+            Keeping::Limited(_) | Keeping::Free => false,
+        }
     }
 }
 
@@ -100,6 +162,7 @@ impl CellType {
         }
     }
 
+    /// The name of the type, as in a request.
     pub fn name(self) -> &'static str
         ensures { result.now ≡ type_name self }
     {
@@ -174,15 +237,18 @@ impl Schema {
         self.columns.as_slice()[i].kind
     }
 
+    /// The columns in their order. Their names are distinct.
     pub fn columns(&self) -> &[Column]
         ensures { result.now ≡ self.now.columns }
     {
         self.columns.as_slice()
     }
 
+    /// What the rows are kept under.
     pub fn keeping(&self) -> Keeping
         ensures keeping { result ≡ self.now.keeping }
         ensures fits { IsKeeping (length self.now.columns) result }
+        ensures schema { IsSchema self.now }
     {
         self.keeping
     }

@@ -1,9 +1,11 @@
 use crate::{
-    Cell, CellType, ColumnWords, Columns, Keeping, Listed, Memory, Numbers, Schema, SchemaCause,
-    SchemaRefused, Text,
+    Cell, CellType, ColumnWords, Columns, Day, Keeping, Listed, Memory, Moment, Numbers, Raw,
+    RawList, RawMap, Schema, SchemaCause, SchemaRefused, Text, Value,
 };
+use sqlite_items::Items;
 use std::alloc::Global;
 use std::cmp::Ordering;
+use std::collections::BTreeMap;
 use std::test::Fail;
 
 fn columns(alloc: Global, words: &[(&str, &str)]) -> Result<Columns, Memory> {
@@ -17,71 +19,25 @@ fn columns(alloc: Global, words: &[(&str, &str)]) -> Result<Columns, Memory> {
     Ok(columns)
 }
 
-fn keeping(
-    alloc: Global,
-    words: &[(&str, &str)],
-    index: Option<&str>,
-    limit: Option<i64>,
-) -> Result<Keeping, SchemaRefused> {
-    let index = match index {
-        Some(name) => Some(Text::from_str(alloc, name)?),
-        None => None,
-    };
-    let schema = Schema::make(alloc, columns(alloc, words)?, index, limit)?;
-    Ok(schema.keeping())
-}
-
-fn bad(cause: SchemaCause, at: Numbers) -> Result<Keeping, SchemaRefused> {
-    Err(SchemaRefused::Bad { cause, at })
-}
-
 #[test]
-fn schemas_are_made_or_refused_by_their_first_cause(rt: HostRuntime) {
-    let alloc = rt.alloc();
-    let two = [("k", "integer"), ("when", "datetime")];
-    assert_eq!(rt;
-        keeping(alloc, &two, Some("when"), None),
-        Ok(Keeping::Indexed(1))
-    );
-    assert_eq!(rt; keeping(alloc, &two, None, None), Ok(Keeping::Free));
-    assert_eq!(rt;
-        keeping(alloc, &two, None, Some(65536)),
-        Ok(Keeping::Limited(65536))
-    );
-    let none = bad(SchemaCause::NoColumns, Numbers::Zero);
-    assert_eq!(rt; keeping(alloc, &[], None, Some(0)), none);
-    let unnamed = bad(SchemaCause::NameLength, Numbers::One(0));
-    assert_eq!(rt; keeping(alloc, &[("", "float")], None, None), unnamed);
-    let untyped = bad(SchemaCause::BadType, Numbers::One(0));
-    assert_eq!(rt;
-        keeping(alloc, &[("v", "float"), ("v", "date")], None, None),
-        untyped
-    );
-    let twice = bad(SchemaCause::Twice, Numbers::One(1));
-    assert_eq!(rt;
-        keeping(alloc, &[("v", "date"), ("v", "date")], None, None),
-        twice
-    );
-    let both = bad(SchemaCause::IndexAndLimit, Numbers::Zero);
-    assert_eq!(rt; keeping(alloc, &two, Some("x"), Some(0)), both);
-    let index = bad(SchemaCause::Index, Numbers::Zero);
-    assert_eq!(rt; keeping(alloc, &two, Some("x"), None), index);
-    let limit = bad(SchemaCause::Limit, Numbers::Zero);
-    assert_eq!(rt; keeping(alloc, &two, None, Some(65537)), limit);
-}
-
-#[test]
-fn columns_are_told_by_number_and_name(rt: HostRuntime) -> Result<(), Fail> {
+fn schemas_are_made_or_refused(rt: HostRuntime) -> Result<(), Fail> {
     let alloc = rt.alloc();
     let words = columns(alloc, &[("k", "integer"), ("when", "datetime")])?;
-    let schema = Schema::make(alloc, words, None, None)
-        .ok()
-        .ok_or("refused")?;
     let when = Text::from_str(alloc, "when")?;
+    let schema = Schema::make(alloc, words, Some(Text::from_str(alloc, "k")?), None)?;
+    assert_eq!(rt; schema.keeping(), Keeping::Indexed(0));
+    assert_eq!(rt; schema.keeping().key_column(), Some(0));
     assert_eq!(rt; schema.find(&when), Some(1));
-    assert_eq!(rt; schema.width(), 2);
-    assert!(rt; schema.name(1) == &when);
-    assert_eq!(rt; schema.type_of(1), CellType::Moment);
+    assert_eq!(rt; schema.type_of(1).name(), "datetime");
+    let twice = columns(alloc, &[("v", "date"), ("v", "date")])?;
+    let refused = SchemaRefused::Bad {
+        cause: SchemaCause::Twice,
+        at: Numbers::One(1),
+    };
+    let outcome = Schema::make(alloc, twice, None, Some(0));
+    assert_eq!(rt; outcome.err(), Some(refused));
+    let words = refused.to_string(alloc)?;
+    assert_eq!(rt; words.as_str(), "a column's name stands twice: 1");
     Ok(())
 }
 
@@ -91,10 +47,9 @@ fn cells_ascend_by_kind_and_then_by_value(rt: HostRuntime) -> Result<(), Fail> {
     let ascending = [
         Cell::Null,
         Cell::Bool(false),
-        Cell::Bool(true),
         Cell::Int(-9007199254740991),
-        Cell::Date(-719162),
-        Cell::Moment(-62135596800000),
+        Cell::Date(Day::of(-719162)),
+        Cell::Moment(Moment::of(-62135596800000)),
         Cell::Words(Text::from_str(alloc, "a")?),
     ];
     for cell in &ascending {
@@ -103,5 +58,28 @@ fn cells_ascend_by_kind_and_then_by_value(rt: HostRuntime) -> Result<(), Fail> {
     for pair in ascending.windows(2) {
         assert_eq!(rt; pair[0].order(&pair[1]), Ordering::Less);
     }
+    assert!(rt; ascending[2].value(alloc)? == Some(Value::Whole(-9007199254740991)));
+    Ok(())
+}
+
+#[test]
+fn values_that_are_judged_later_are_copied(rt: HostRuntime) -> Result<(), Fail> {
+    let alloc = rt.alloc();
+    let mut items = Items::new(alloc);
+    items.push(Raw::Words(Text::from_str(alloc, "é")?))?;
+    let mut entries = BTreeMap::new(alloc);
+    for name in ["b", "a"] {
+        drop(entries.insert(Text::from_str(alloc, name)?, Raw::Int(7))?);
+    }
+    items.push(Raw::Map(RawMap::from_entries(entries)))?;
+    let Raw::List(copy) = Raw::List(RawList::from_items(items)).copy(alloc)? else {
+        return Err(Fail::from("no list"));
+    };
+    let [Raw::Words(word), Raw::Map(members)] = copy.as_slice() else {
+        return Err(Fail::from("other items"));
+    };
+    assert_eq!(rt; word.as_str(), "é");
+    let second = members.get(&Text::from_str(alloc, "b")?);
+    assert!(rt; matches!(second, Some(Raw::Int(7))));
     Ok(())
 }

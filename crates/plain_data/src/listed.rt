@@ -16,8 +16,10 @@ pub struct Listed<T> {
     items: Vec<T>,
 }
 
+/// Bytes, of no certain encoding.
 pub type Bytes = Listed<u8>;
 
+/// A list of texts.
 pub type Texts = Listed<Text>;
 
 impl<T> Model for Listed<T> {
@@ -56,24 +58,28 @@ impl<T> Listed<T> {
         items
     }
 
+    /// The items, in place.
     pub fn as_slice(&self) -> &[T]
         ensures { result.now ≡ self.now }
     {
         self.items.as_slice()
     }
 
+    /// The number of items.
     pub fn len(&self) -> usize
         ensures { result ≡ length self.now }
     {
         self.items.len()
     }
 
+    /// Whether it has no item.
     pub fn is_empty(&self) -> bool
         ensures { IsTrue result ↔ (self.now ≡ []) }
     {
         self.items.is_empty()
     }
 
+    /// The item at a place, counted from 0, and none past the end.
     pub fn get(&self, at: usize) -> Option<&T>
         ensures value { option_copied result ≡ slice_get self.now at }
         ensures within { OnSome result (at < length self.now) }

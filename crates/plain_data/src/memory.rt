@@ -1,8 +1,15 @@
 use std::alloc::{AllocError, AllocFailed};
+use std::fmt;
 
 /// Memory was wanted and not given. What the call was lent or handed is as its own page says.
 #[derive(Clone, Copy, Debug, Drop, PartialEq, Eq)]
 pub struct Memory;
+
+impl fmt::Display for Memory {
+    fn fmt<W: fmt::Write>(&self, f: &mut fmt::Formatter<W>) -> fmt::Result {
+        f.write_str("out of memory")
+    }
+}
 
 impl From<AllocError> for Memory {
     fn from(_refused: AllocError) -> Memory {

@@ -45,6 +45,7 @@ impl Text {
         })
     }
 
+    /// The text, in place.
     pub fn as_str(&self) -> &str
         ensures { result.now ≡ self.now }
     {

@@ -5,6 +5,7 @@ use Rattle.std.specs.Map.{lookup}
 use Rattle.cell_core.specs.declared.cell.Cell.{Cell}
 use Rattle.cell_core.specs.declared.schema.Column.{Column}
 use Rattle.cell_core.specs.Cells.{same_cell}
+pub use Rattle.cell_core.specs.Limits.{max_rows}
 use Rattle.cell_core.specs.Schemas.{SchemaData}
 use Rattle.row_batch.specs.Batches.{Store, pair_of, without, put_batch}
 use Rattle.row_batch.specs.Checks.{cell_fault}
@@ -12,10 +13,6 @@ use Rattle.row_batch.specs.declared.batch.Batch.{Batch}
 use Rattle.row_batch.specs.declared.batch.Batch.TheVariants as batch
 use Rattle.row_batch.specs.declared.batch.Pair.{Pair}
 use Rattle.row_batch.specs.declared.change.RowChange.{RowChange}
-
--- the most rows of a table
-abbrev pub max_rows : ℕ
-max_rows = 65536
 
 -- rows by their keys, as a map's entries
 abbrev pub entries_of : List Pair → List (Cell × List Cell)

@@ -1,5 +1,5 @@
 -- Which batches a schema takes, and the first cause against another.
-use Rattle.std.specs.Prelude.{◌≡◌, ℕ, ◌+◌, ◌-◌, ◌^◌, ◌==◌, ℤ, pos, negsuc, nat_lt, List, [], ◌∷◌, length, All, Bool, true, false, ◌&&◌, Option, Some, None, option_map, slice_get, if◌then◌else◌}
+use Rattle.std.specs.Prelude.{◌≡◌, ℕ, ◌+◌, nat_lt, List, [], ◌∷◌, length, All, Bool, true, false, ◌&&◌, Option, Some, None, option_map, slice_get, if◌then◌else◌}
 use Rattle.std.specs.Option.{option_or}
 use Rattle.cal_units.specs.Calendar.{is_day, is_moment}
 use Rattle.cell_core.specs.declared.cell.Cell.{Cell}
@@ -10,6 +10,10 @@ use Rattle.cell_core.specs.declared.schema.Column.{Column}
 use Rattle.cell_core.specs.declared.schema.Keeping.{Keeping}
 use Rattle.cell_core.specs.declared.schema.Keeping.TheVariants.{Indexed, Limited, Free}
 use Rattle.cell_core.specs.declared.schema.Numbers.TheVariants.{One, Two}
+pub use Rattle.cell_core.specs.Cells.{is_null}
+pub use Rattle.cell_core.specs.Keepings.{IsIndexed, is_key_column}
+pub use Rattle.cell_core.specs.Limits.{is_integer}
+use Rattle.cell_core.specs.Limits.{max_text}
 use Rattle.cell_core.specs.Schemas.{SchemaData}
 use Rattle.row_batch.specs.Batches.{key_in}
 use Rattle.row_batch.specs.declared.batch.Batch.{Batch}
@@ -26,11 +30,6 @@ max_batch = 1024
 
 -- ---- one cell
 
--- a whole number from -(2^53-1) to 2^53-1
-abbrev pub is_integer : ℤ → Bool
-is_integer (pos n) = nat_lt n (2 ^ 53)
-is_integer (negsuc n) = nat_lt n (2 ^ 53 - 1)
-
 abbrev pub unless_in : Bool → RowCause → Option RowCause
 unless_in fits why = if fits then None else Some why
 
@@ -42,7 +41,7 @@ cell_fault Integer (cell.Int z) = unless_in (is_integer z) cause.Range
 cell_fault Boolean (cell.Bool b) = None
 cell_fault Date (cell.Date day) = unless_in (is_day day) cause.Range
 cell_fault Moment (cell.Moment ms) = unless_in (is_moment ms) cause.Range
-cell_fault Words (cell.Words s) = if nat_lt 256 (length s) then Some cause.Long else None
+cell_fault Words (cell.Words s) = if nat_lt max_text (length s) then Some cause.Long else None
 cell_fault kind other = Some cause.BadType
 
 -- ---- one row
@@ -52,11 +51,6 @@ refused why row column = record { cause = why; at = Two row column }
 
 abbrev pub without_key : ℕ → BatchRefused
 without_key row = record { cause = cause.Index; at = One row }
-
-abbrev pub is_key_column : Keeping → ℕ → Bool
-is_key_column (Indexed column) i = i == column
-is_key_column (Limited slots) i = false
-is_key_column Free i = false
 
 -- the column is left out or set to null
 abbrev pub sets_nothing : PatchCell → Bool
@@ -87,10 +81,6 @@ abbrev pub patches_fault : SchemaData → ℕ → List (List PatchCell) → Opti
 patches_fault schema row [] = None
 patches_fault schema row (patch ∷ patches) =
     option_or (patch_fault schema.keeping row 0 schema.columns patch) (patches_fault schema (row + 1) patches)
-
-abbrev pub is_null : Cell → Bool
-is_null cell.Null = true
-is_null other = false
 
 -- the type of the index column
 abbrev pub kind_at : List Column → ℕ → Option CellType
@@ -124,11 +114,6 @@ batch_fault schema (batch.Replace patches) = counted_fault (length patches) (pat
 
 abbrev pub HasWidth : ℕ → List PatchCell → Type 0
 HasWidth width patch = length patch ≡ width
-
-abbrev pub IsIndexed : Keeping → Type 0
-IsIndexed (Indexed column) = Unit {0}
-IsIndexed (Limited slots) = ⊥
-IsIndexed Free = ⊥
 
 -- each patch has one cell for each column, and keys are removed from a table with an index alone
 abbrev pub IsShaped : SchemaData → Batch → Type 0

@@ -17,6 +17,7 @@ pub enum PatchCell {
 /// One row of an update: what it does to each column's cell, in the schema's order.
 pub type Patch = Listed<PatchCell>;
 
+/// The rows of an update, in the order in which they act.
 pub type Patches = Listed<Patch>;
 
 /// A change of a table, which is applied whole. Rows act in their order.
@@ -49,6 +50,17 @@ impl Batch {
             Batch::Update(patches) | Batch::Replace(patches) => patches.len(),
             Batch::Remove(_) | Batch::Clear => 0,
         }
+    }
+}
+
+impl PatchCell {
+    ghost use Rattle.row_batch.specs.Checks.{sets_nothing};
+
+    /// Whether the column is left out or set to null.
+    pub fn sets_nothing(&self) -> bool
+        ensures { result ≡ sets_nothing self.now }
+    {
+        matches!(self, PatchCell::Keep | PatchCell::Set(Cell::Null))
     }
 }
 

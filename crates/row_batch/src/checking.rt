@@ -1,20 +1,15 @@
-ghost use Rattle.std.specs.Prelude.{◌≡◌, false, nat_lt, Option, option_map, option_copied, slice_index_or, IfSome, IsTrue, All, ◌↔◌};
+ghost use Rattle.std.specs.Prelude.{◌≡◌, false, nat_lt, Option, option_map, option_copied, slice_index_or, IfSome, IsTrue, All, ◌↔◌, if◌then◌else◌};
 ghost use Rattle.row_batch.specs.Batches.{key_in};
 ghost use Rattle.row_batch.specs.declared.batch.PatchCell.TheVariants as patch_cell;
 ghost use Rattle.cal_units.specs.Calendar.{is_day, is_moment};
+ghost use Rattle.cell_core.specs.Limits.{max_text};
 ghost use Rattle.cell_core.specs.Schemas.{outcome_of};
-ghost use Rattle.row_batch.specs.Checks.{HasWidth, IsIndexed, IsShaped, is_integer, cell_fault, unless_in, refused, without_key, is_key_column, sets_nothing, column_fault, patch_fault, patches_fault, is_null, key_fault, keys_fault, removed_fault, counted_fault, batch_fault, index_cell, IsCheckedPatch};
+ghost use Rattle.row_batch.specs.Checks.{HasWidth, IsShaped, cell_fault, unless_in, refused, without_key, sets_nothing, column_fault, patch_fault, patches_fault, is_null, key_fault, keys_fault, removed_fault, counted_fault, batch_fault, index_cell, IsCheckedPatch};
 
 use crate::batch::{Batch, MAX_BATCH, Patch, PatchCell};
 use crate::refused::{BatchRefused, RowCause};
-use cal_units::{FIRST_DAY, FIRST_MOMENT, LAST_DAY, LAST_MOMENT};
-use cell_core::{Cell, CellType, Column, Keeping, Numbers, Schema};
-
-/// The greatest whole number of a cell, 2^53 - 1; the least is its negative.
-pub const MAX_INTEGER: i64 = 9_007_199_254_740_991;
-
-/// The most bytes of a cell's text.
-pub const MAX_TEXT: usize = 256;
+use cal_units::{Day, Moment};
+use cell_core::{Cell, CellType, Column, Keeping, MAX_TEXT, Numbers, Schema, is_integer};
 
 /// Says whether a table of that schema takes the batch, or else the first cause against it. It takes no
 /// memory.
@@ -94,29 +89,13 @@ fn column_fault(
 ) -> Option<BatchRefused>
     ensures { result ≡ column_fault keeping row i column.now cell.now }
 {
-    if is_key_column(keeping, i) && sets_nothing(cell) {
+    if keeping.is_key_column(i) && cell.sets_nothing() {
         return Some(without_key(row));
     }
     match cell {
         PatchCell::Keep => None,
         PatchCell::Set(cell) => refused(cell_fault(column.kind, cell), row, i),
     }
-}
-
-fn is_key_column(keeping: Keeping, i: usize) -> bool
-    ensures { result ≡ is_key_column keeping i }
-{
-    match keeping {
-        Keeping::Indexed(column) => i == column,
-        Keeping::Limited(_) | Keeping::Free => false,
-    }
-}
-
-/// Whether the column is left out or set to null.
-fn sets_nothing(cell: &PatchCell) -> bool
-    ensures { result ≡ sets_nothing cell.now }
-{
-    matches!(cell, PatchCell::Keep | PatchCell::Set(Cell::Null))
 }
 
 /// The cause in column `column` of row `row`.
@@ -166,7 +145,7 @@ fn keys_fault(kind: CellType, column: usize, keys: &[Cell]) -> Option<BatchRefus
 fn key_fault(kind: CellType, row: u64, column: usize, key: &Cell) -> Option<BatchRefused>
     ensures { result ≡ key_fault (Option.Some kind) row column key.now }
 {
-    if matches!(key, Cell::Null) {
+    if key.is_null() {
         return Some(without_key(row));
     }
     refused(cell_fault(kind, key), row, column)
@@ -180,11 +159,27 @@ fn cell_fault(kind: CellType, cell: &Cell) -> Option<RowCause>
         (_, Cell::Null) => None,
         (CellType::Integer, Cell::Int(number)) => unless_in(is_integer(*number)),
         (CellType::Boolean, Cell::Bool(_)) => None,
-        (CellType::Date, Cell::Date(day)) => unless_in(is_day(*day)),
-        (CellType::Moment, Cell::Moment(millis)) => unless_in(is_moment(*millis)),
+        (CellType::Date, Cell::Date(day)) => day_fault(*day),
+        (CellType::Moment, Cell::Moment(moment)) => moment_fault(*moment),
         (CellType::Words, Cell::Words(text)) => too_long(text.as_str().len()),
         _ => Some(RowCause::BadType),
     }
+}
+
+/// A day is in range by its type.
+fn day_fault(day: Day) -> Option<RowCause>
+    ensures { result ≡ unless_in (is_day day) RowCause.Range }
+{
+    let _in_range = day.number();
+    None
+}
+
+/// A datetime is in range by its type.
+fn moment_fault(moment: Moment) -> Option<RowCause>
+    ensures { result ≡ unless_in (is_moment moment) RowCause.Range }
+{
+    let _in_range = moment.number();
+    None
 }
 
 fn unless_in(fits: bool) -> Option<RowCause>
@@ -194,31 +189,13 @@ fn unless_in(fits: bool) -> Option<RowCause>
 }
 
 fn too_long(size: usize) -> Option<RowCause>
-    ensures { result ≡ unless_in (nat_lt size 257) RowCause.Long }
+    ensures { result ≡ (if nat_lt max_text size then Option.Some RowCause.Long else Option.None) }
 {
     if size <= MAX_TEXT {
         None
     } else {
         Some(RowCause::Long)
     }
-}
-
-fn is_integer(number: i64) -> bool
-    ensures { result ≡ is_integer number }
-{
-    -MAX_INTEGER <= number && number <= MAX_INTEGER
-}
-
-fn is_day(day: i32) -> bool
-    ensures { result ≡ is_day day }
-{
-    FIRST_DAY <= day && day <= LAST_DAY
-}
-
-fn is_moment(millis: i64) -> bool
-    ensures { result ≡ is_moment millis }
-{
-    FIRST_MOMENT <= millis && millis <= LAST_MOMENT
 }
 
 /// The index cell of a patch, which it sets to a cell that isn't null; nothing where the table has no index.
@@ -252,7 +229,7 @@ pub fn is_shaped(schema: &Schema, batch: &Batch) -> bool
         Batch::Update(patches) | Batch::Replace(patches) => {
             are_wide(schema.width(), patches.as_slice())
         }
-        Batch::Remove(_) => is_indexed(schema.keeping()),
+        Batch::Remove(_) => schema.keeping().is_indexed(),
         Batch::Clear => true,
     }
 }
@@ -261,10 +238,4 @@ fn are_wide(width: usize, patches: &[Patch]) -> bool
     ensures { IsTrue result ↔ All (HasWidth width) patches.now }
 {
     patches.iter().all(|patch| patch.len() == width)
-}
-
-fn is_indexed(keeping: Keeping) -> bool
-    ensures { IsTrue result ↔ IsIndexed keeping }
-{
-    matches!(keeping, Keeping::Indexed(_))
 }

@@ -24,6 +24,7 @@ impl Model for Draft {
 }
 
 impl Draft {
+    /// No rows.
     pub fn new(alloc: Global) -> Draft
         ensures { result ≡ empty_store }
     {

@@ -19,8 +19,9 @@ mod rows;
 mod table;
 
 pub use batch::{Batch, MAX_BATCH, Pair, Patch, PatchCell, Patches};
+pub use cell_core::MAX_INTEGER;
 pub use change::{Changes, RowChange};
-pub use checking::{MAX_INTEGER, MAX_TEXT, check, is_shaped, key_of};
+pub use checking::{check, is_shaped, key_of};
 pub use laws::{checked_patches_law, order_law, table_law};
 pub use refused::{BatchRefused, RowCause, RowsRefused};
 pub use rows::{key_in, new_row, patched};

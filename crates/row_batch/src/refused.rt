@@ -1,4 +1,5 @@
 use cell_core::{Memory, Numbers};
+use std::fmt;
 
 /// Why rows, keys or a text of rows are refused. The tests that a reader makes, and their order, are in
 /// the definitions of its crate.
@@ -44,6 +45,40 @@ pub struct BatchRefused {
 pub enum RowsRefused {
     Bad(BatchRefused),
     Memory,
+}
+
+impl fmt::Display for RowCause {
+    fn fmt<W: fmt::Write>(&self, f: &mut fmt::Formatter<W>) -> fmt::Result {
+        f.write_str(match self {
+            RowCause::Shape => "not of the form of rows",
+            RowCause::Csv => "another number of fields than in the header",
+            RowCause::Header => "no header",
+            RowCause::Twice => "a header field stands twice",
+            RowCause::Unknown => "a name of no column",
+            RowCause::Length => "lists of different lengths",
+            RowCause::Rows => "more than 1024 rows or keys",
+            RowCause::Index => "an index cell or a key is left out or null",
+            RowCause::BadType => "a cell of another type",
+            RowCause::Date => "neither a date nor a datetime",
+            RowCause::Range => "a value out of range",
+            RowCause::Long => "a text of more than 256 bytes",
+        })
+    }
+}
+
+impl fmt::Display for BatchRefused {
+    fn fmt<W: fmt::Write>(&self, f: &mut fmt::Formatter<W>) -> fmt::Result {
+        write!(f, "{}{}", self.cause, self.at)
+    }
+}
+
+impl fmt::Display for RowsRefused {
+    fn fmt<W: fmt::Write>(&self, f: &mut fmt::Formatter<W>) -> fmt::Result {
+        match self {
+            RowsRefused::Bad(refused) => write!(f, "{refused}"),
+            RowsRefused::Memory => write!(f, "{}", Memory),
+        }
+    }
 }
 
 impl From<Memory> for RowsRefused {

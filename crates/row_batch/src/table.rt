@@ -32,7 +32,7 @@ impl Model for PlainTable {
 
 impl PlainTable {
     /// A table with no rows. It takes no memory.
-    pub fn make(alloc: Global) -> PlainTable
+    pub fn new(alloc: Global) -> PlainTable
         ensures empty { result ≡ empty_store }
         ensures counted { (keeping : Keeping) → IsCounted keeping result }
     {

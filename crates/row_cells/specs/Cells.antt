@@ -7,7 +7,7 @@ use Rattle.cal_units.specs.declared.moments.MomentRefused.{MomentRefused}
 use Rattle.cal_units.specs.declared.moments.MomentRefused.TheVariants.{NotAMoment, OutOfRange}
 use Rattle.cell_core.specs.declared.cell.Cell.{Cell}
 use Rattle.cell_core.specs.declared.cell.Cell.TheVariants as cell
-use Rattle.row_batch.specs.Checks.{is_integer}
+use Rattle.cell_core.specs.Limits.{max_text, is_integer}
 use Rattle.row_batch.specs.declared.refused.RowCause.{RowCause}
 use Rattle.row_batch.specs.declared.refused.RowCause.TheVariants as cause
 
@@ -38,4 +38,4 @@ moment_cell text = instant_cell (moment_of text)
 
 -- a text in a column of texts has at most 256 bytes
 abbrev pub words_cell : List ℕ → Result Cell RowCause
-words_cell text = if nat_lt 256 (length text) then Err cause.Long else Ok (cell.Words text)
+words_cell text = if nat_lt max_text (length text) then Err cause.Long else Ok (cell.Words text)

@@ -5,8 +5,10 @@ use Rattle.cell_core.specs.declared.cell.Cell.{Cell}
 use Rattle.cell_core.specs.declared.schema.Column.{Column}
 use Rattle.cell_core.specs.declared.schema.Keeping.{Keeping}
 use Rattle.cell_core.specs.declared.schema.Numbers.TheVariants.{Zero, One}
+use Rattle.cell_core.specs.Cells.{is_null}
+use Rattle.cell_core.specs.Keepings.{is_key_column}
 use Rattle.cell_core.specs.Schemas.{SchemaData}
-use Rattle.row_batch.specs.Checks.{max_batch, refused, without_key, is_key_column, sets_nothing, is_null}
+use Rattle.row_batch.specs.Checks.{max_batch, refused, without_key, sets_nothing}
 use Rattle.row_batch.specs.declared.batch.PatchCell.{PatchCell}
 use Rattle.row_batch.specs.declared.batch.PatchCell.TheVariants.{Set}
 use Rattle.row_batch.specs.declared.refused.BatchRefused.{BatchRefused}

@@ -1,17 +1,10 @@
 ghost use Rattle.std.specs.Prelude.{◌≡◌, IfOk};
-ghost use Rattle.row_batch.specs.Checks.{is_integer};
 ghost use Rattle.row_cells.specs.Cells.{integer_cell, millis_cell, date_cell, moment_cell, words_cell};
 
-use cal_units::{FIRST_MOMENT, LAST_MOMENT, MomentRefused, read_date, read_moment};
-use cell_core::{Cell, Memory, Text};
+use cal_units::{Moment, MomentRefused, read_date, read_moment};
+use cell_core::{Cell, MAX_TEXT, Memory, Text, is_integer};
 use row_batch::RowCause;
 use std::alloc::Global;
-
-/// The most bytes of a text in a table.
-pub const MAX_WORDS: usize = 256;
-
-/// The greatest whole number of a cell. The least is its negative.
-const MAX_INTEGER: i64 = 9_007_199_254_740_991;
 
 /// The cell that a value is, or the cause against it.
 pub type CellRead = Result<Cell, RowCause>;
@@ -27,21 +20,14 @@ pub fn integer_cell(number: i64) -> CellRead
     }
 }
 
-fn is_integer(number: i64) -> bool
-    ensures { result ≡ is_integer number }
-{
-    -MAX_INTEGER <= number && number <= MAX_INTEGER
-}
-
 /// Whole milliseconds since 1970-01-01T00:00:00Z in a column of datetimes: `Range` before 0001-01-01 and
 /// after 9999-12-31.
 pub fn millis_cell(millis: i64) -> CellRead
     ensures { result ≡ millis_cell millis }
 {
-    if FIRST_MOMENT <= millis && millis <= LAST_MOMENT {
-        Ok(Cell::Moment(millis))
-    } else {
-        Err(RowCause::Range)
+    match Moment::try_of(millis) {
+        Some(moment) => Ok(Cell::Moment(moment)),
+        None => Err(RowCause::Range),
     }
 }
 
@@ -62,7 +48,7 @@ pub fn moment_cell(text: &str) -> CellRead
     ensures { result ≡ moment_cell text.now }
 {
     match read_moment(text.as_bytes()) {
-        Ok(millis) => Ok(Cell::Moment(millis)),
+        Ok(moment) => Ok(Cell::Moment(moment)),
         Err(MomentRefused::NotAMoment) => Err(RowCause::Date),
         Err(MomentRefused::OutOfRange) => Err(RowCause::Range),
     }
@@ -73,7 +59,7 @@ pub fn moment_cell(text: &str) -> CellRead
 pub fn words_cell(alloc: Global, text: &str) -> Result<CellRead, Memory>
     ensures { IfOk result (λ read. read ≡ words_cell text.now) }
 {
-    if text.len() > MAX_WORDS {
+    if text.len() > MAX_TEXT {
         return Ok(Err(RowCause::Long));
     }
     Ok(Ok(Cell::Words(Text::from_str(alloc, text)?)))

@@ -9,9 +9,7 @@
 mod cells;
 mod rows;
 
-pub use cells::{
-    CellRead, MAX_WORDS, date_cell, integer_cell, millis_cell, moment_cell, words_cell,
-};
+pub use cells::{CellRead, date_cell, integer_cell, millis_cell, moment_cell, words_cell};
 pub use rows::{placed, placed_key, refused, too_many};
 
 #[cfg(test)]

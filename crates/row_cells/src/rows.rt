@@ -1,5 +1,4 @@
 ghost use Rattle.std.specs.Prelude.{◌≡◌};
-ghost use Rattle.row_batch.specs.Checks.{is_key_column, sets_nothing};
 ghost use Rattle.row_batch.specs.declared.refused.RowsRefused.TheVariants as refused;
 ghost use Rattle.row_cells.specs.Rows.{answer_of, placed, placed_key, too_many};
 
@@ -32,7 +31,7 @@ pub fn placed(
     ensures { result ≡ answer_of (placed keeping row column read) }
 {
     match read {
-        Ok(cell) if is_key_column(keeping, column) && sets_nothing(&cell) => {
+        Ok(cell) if keeping.is_key_column(column) && cell.sets_nothing() => {
             Err(refused(RowCause::Index, Numbers::One(row as u64)))
         }
         Ok(cell) => Ok(cell),
@@ -50,19 +49,4 @@ pub fn placed_key(row: usize, column: usize, read: CellRead) -> Result<Cell, Row
         Ok(key) => Ok(key),
         Err(cause) => Err(refused(cause, Numbers::Two(row as u64, column as u64))),
     }
-}
-
-fn is_key_column(keeping: Keeping, column: usize) -> bool
-    ensures { result ≡ is_key_column keeping column }
-{
-    match keeping {
-        Keeping::Indexed(key) => column == key,
-        Keeping::Limited(_) | Keeping::Free => false,
-    }
-}
-
-fn sets_nothing(cell: &PatchCell) -> bool
-    ensures { result ≡ sets_nothing cell.now }
-{
-    matches!(cell, PatchCell::Keep | PatchCell::Set(Cell::Null))
 }

@@ -13,7 +13,7 @@ use Rattle.value_core.specs.Values.{kind, order_in_kind, value_order}
 
 -- ---- each kind's own order is equal only at one value
 
-bool_cmp-exact : (x y : Bool) → bool_cmp x y ≡ Equal → x ≡ y
+pub bool_cmp-exact : (x y : Bool) → bool_cmp x y ≡ Equal → x ≡ y
 bool_cmp-exact false false h = refl
 bool_cmp-exact true true h = refl
 bool_cmp-exact false true h = cc

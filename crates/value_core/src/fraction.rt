@@ -159,52 +159,16 @@ fn order_of_ratios(a: u128, b: u128, c: u128, d: u128) -> Ordering
 #[cfg(test)]
 mod tests {
     use super::*;
-    use std::process::Abort;
 
     const REACH: i128 = 1 << 100;
 
-    fn parts(n: i128, d: i128) -> (i128, i128)
-        requires positive { pos 1 ≤ℤ d }
-        requires n_in_reach { IsInReach n }
-        requires d_in_reach { IsInReach d }
-    {
-        let fraction = Fraction::reduced(n, d);
-        (fraction.n, fraction.d)
-    }
-
     #[test]
-    fn lowest_terms(rt: HostRuntime) {
-        assert_eq!(rt; parts(7, 3), (7, 3));
-        assert_eq!(rt; parts(6, 2), (3, 1));
-        assert_eq!(rt; parts(-6, 4), (-3, 2));
-        assert_eq!(rt; parts(0, 5), (0, 1));
-        assert_eq!(rt; parts(REACH, REACH), (1, 1));
-        assert_eq!(rt; parts(-REACH, REACH - 1), (-REACH, REACH - 1));
-        assert_eq!(rt; parts(REACH - 1, REACH), (REACH - 1, REACH));
-    }
-
-    fn stand(rt: &impl Abort, less: Fraction, greater: Fraction) {
-        assert_eq!(rt; less.order(&greater), Ordering::Less);
-        assert_eq!(rt; greater.order(&less), Ordering::Greater);
-        assert_eq!(rt; less.cmp(&less), Ordering::Equal);
-        assert!(rt; less < greater && less != greater && less == less);
-    }
-
-    #[test]
-    fn as_numbers(rt: HostRuntime) {
-        stand(&rt, Fraction::reduced(1, 3), Fraction::reduced(1, 2));
-        stand(&rt, Fraction::reduced(-1, 2), Fraction::reduced(-1, 3));
-        stand(&rt, Fraction::reduced(-1, 2), Fraction::reduced(0, 1));
-        stand(&rt, Fraction::reduced(7, 3), Fraction::reduced(5, 2));
-        stand(
-            &rt,
-            Fraction::reduced(REACH - 2, REACH - 1),
-            Fraction::reduced(REACH - 1, REACH),
-        );
-        stand(
-            &rt,
-            Fraction::reduced(1 - REACH, REACH),
-            Fraction::reduced(2 - REACH, REACH - 1),
-        );
+    fn fractions_are_reduced_and_ordered(rt: HostRuntime) {
+        assert_eq!(rt; Fraction::reduced(-6, 4), Fraction::reduced(-3, 2));
+        assert_eq!(rt; Fraction::reduced(0, 5).d, 1);
+        let least = Fraction::reduced(1 - REACH, REACH);
+        let next = Fraction::reduced(2 - REACH, REACH - 1);
+        assert!(rt; least < next);
+        assert!(rt; Fraction::reduced(7, 3) < Fraction::reduced(5, 2));
     }
 }

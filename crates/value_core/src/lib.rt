@@ -4,10 +4,11 @@
 //! `Fraction` is always in its lowest terms, so that two fractions are the same number only where
 //! they are the same value. No product of two fractions' parts is ever formed, so nothing can wrap.
 //!
-//! It stands on `plain_data`, whose `Text` it shows. Its callers may rely on this: `Value::order`,
-//! `Value`'s `Ord` and the definition `value_order` are one order, in which two values are equal only
-//! where they are one, and likewise for fractions (`values_are_ordered`, `fractions_are_ordered`).
-//! The lemmas behind those laws stand in `specs/ValueLaws.antt` and `specs/FractionLaws.antt`.
+//! It stands on `plain_data`, whose `Text` it shows, and on `cal_units`, whose `Day` and `Moment` it
+//! shows. Its callers may rely on this: `Value::order`, `Value`'s `Ord` and the definition
+//! `value_order` are one order, in which two values are equal only where they are one, and likewise for
+//! fractions (`values_are_ordered`, `fractions_are_ordered`). The lemmas behind those laws stand in
+//! `specs/ValueLaws.antt` and `specs/FractionLaws.antt`.
 #![tactic(auto)]
 
 mod fraction;

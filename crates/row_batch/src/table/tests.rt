@@ -64,6 +64,11 @@ fn put(rt: &impl Abort, alloc: Global, table: &mut PlainTable, schema: &Schema, 
     assert!(rt; table.put(alloc, schema, batch).is_ok());
 }
 
+fn checked(rt: &impl Abort, schema: &Schema, batch: &Batch) -> Result<(), BatchRefused> {
+    assert!(rt; is_shaped(schema, batch));
+    check(schema, batch)
+}
+
 /// Whether the table has these rows, each behind its key and with null for a missing number.
 fn holds(table: &PlainTable, rows: &[(i64, &[Option<i64>])]) -> bool {
     table.len() == rows.len()
@@ -81,121 +86,60 @@ fn is_row(pair: &Pair, row: &[Option<i64>]) -> bool {
 fn indexed_rows_change_in_place(rt: HostRuntime) -> Result<(), Fail> {
     let alloc = rt.alloc();
     let schema = schema(alloc, &["id", "v", "w"], Some("id"), None)?;
-    let mut table = PlainTable::make(alloc);
+    let mut table = PlainTable::new(alloc);
     // Two patches name one key, a column that is left out keeps its cell, and is null in a new row.
     let rows = [
         [Some(1), Some(10), KEEP].as_slice(),
         [Some(2), Some(20), Some(5)].as_slice(),
         [Some(1), KEEP, Some(7)].as_slice(),
-        [Some(3), KEEP, Some(8)].as_slice(),
     ];
     let update = Batch::Update(patches(alloc, &rows)?);
-    assert_eq!(rt; update.rows(), 4);
+    assert_eq!(rt; checked(&rt, &schema, &update), Ok(()));
     put(&rt, alloc, &mut table, &schema, &update);
-    assert!(rt;
-        holds(
-            &table,
-            &[
-                (1, &[Some(1), Some(10), Some(7)]),
-                (2, &[Some(2), Some(20), Some(5)]),
-                (3, &[Some(3), None, Some(8)]),
-            ]
-        )
-    );
+    let one: (i64, &[Option<i64>]) = (1, &[Some(1), Some(10), Some(7)]);
+    assert!(rt; holds(&table, &[one, (2, &[Some(2), Some(20), Some(5)])]));
     // A key that is absent is dropped all the same.
     let remove = Batch::Remove(keys(alloc, &[9, 2])?);
     put(&rt, alloc, &mut table, &schema, &remove);
+    assert!(rt; holds(&table, &[one]));
+    let replace = Batch::Replace(patches(alloc, &[&[Some(3), KEEP, Some(9_007_199_254_740_992)]])?);
+    put(&rt, alloc, &mut table, &schema, &replace);
     assert!(rt;
         holds(
             &table,
-            &[
-                (1, &[Some(1), Some(10), Some(7)]),
-                (3, &[Some(3), None, Some(8)]),
-            ]
+            &[(3, &[Some(3), None, Some(9_007_199_254_740_992)])]
         )
     );
-    let replace = Batch::Replace(patches(alloc, &[&[Some(3), Some(30), KEEP]])?);
-    put(&rt, alloc, &mut table, &schema, &replace);
-    assert!(rt; holds(&table, &[(3, &[Some(3), Some(30), None])]));
-    put(&rt, alloc, &mut table, &schema, &Batch::Clear);
-    assert!(rt; holds(&table, &[]));
+    let found = BatchRefused {
+        cause: RowCause::Range,
+        at: Numbers::Two(0, 2),
+    };
+    assert_eq!(rt; checked(&rt, &schema, &replace), Err(found));
     Ok(())
 }
 
 #[test]
-fn limited_rows_take_slots(rt: HostRuntime) -> Result<(), Fail> {
+fn rows_without_an_index_are_counted(rt: HostRuntime) -> Result<(), Fail> {
     let alloc = rt.alloc();
-    let schema = schema(alloc, &["v"], None, Some(3))?;
-    let mut table = PlainTable::make(alloc);
-    let rows = [[Some(0)], [Some(1)], [Some(2)], [Some(3)], [Some(4)]];
-    let rows = [
-        rows[0].as_slice(),
-        rows[1].as_slice(),
-        rows[2].as_slice(),
-        rows[3].as_slice(),
-        rows[4].as_slice(),
-    ];
-    let update = Batch::Update(patches(alloc, &rows)?);
-    put(&rt, alloc, &mut table, &schema, &update);
-    assert!(rt; holds(&table, &[(2, &[Some(2)]), (0, &[Some(3)]), (1, &[Some(4)])]));
-    assert_eq!(rt; table.number(), 5);
-    // Rows are counted from 0 again.
-    put(&rt, alloc, &mut table, &schema, &Batch::Clear);
+    let limited = schema(alloc, &["v"], None, Some(2))?;
+    let mut table = PlainTable::new(alloc);
+    let update = Batch::Update(patches(alloc, &[&[Some(5)], &[Some(6)], &[KEEP]])?);
+    put(&rt, alloc, &mut table, &limited, &update);
+    assert!(rt; holds(&table, &[(1, &[Some(6)]), (0, &[None])]));
+    put(&rt, alloc, &mut table, &limited, &Batch::Clear);
     assert_eq!(rt; table.number(), 0);
-    let update = Batch::Update(patches(alloc, &[&[Some(9)]])?);
-    put(&rt, alloc, &mut table, &schema, &update);
-    assert!(rt; holds(&table, &[(0, &[Some(9)])]));
-    Ok(())
-}
-
-#[test]
-fn free_rows_are_counted(rt: HostRuntime) -> Result<(), Fail> {
-    let alloc = rt.alloc();
-    let schema = schema(alloc, &["v"], None, None)?;
-    let mut table = PlainTable::make(alloc);
-    let update = Batch::Update(patches(alloc, &[&[Some(5)], &[Some(5)], &[KEEP]])?);
-    put(&rt, alloc, &mut table, &schema, &update);
-    let remove = Batch::Remove(keys(alloc, &[1])?);
-    put(&rt, alloc, &mut table, &schema, &remove);
-    put(&rt, alloc, &mut table, &schema, &update);
-    assert!(rt;
-        holds(
-            &table,
-            &[
-                (0, &[Some(5)]),
-                (2, &[None]),
-                (3, &[Some(5)]),
-                (4, &[Some(5)]),
-                (5, &[None]),
-            ]
-        )
+    let free = schema(alloc, &["v"], None, None)?;
+    let mut table = PlainTable::new(alloc);
+    put(&rt, alloc, &mut table, &free, &update);
+    put(
+        &rt,
+        alloc,
+        &mut table,
+        &free,
+        &Batch::Remove(keys(alloc, &[1, 2])?),
     );
-    let replace = Batch::Replace(patches(alloc, &[&[Some(6)]])?);
-    put(&rt, alloc, &mut table, &schema, &replace);
-    assert!(rt; holds(&table, &[(0, &[Some(6)])]));
-    Ok(())
-}
-
-#[test]
-fn the_first_cause_is_found(rt: HostRuntime) -> Result<(), Fail> {
-    let alloc = rt.alloc();
-    let schema = schema(alloc, &["k", "v"], Some("k"), None)?;
-    let first: [&[Option<i64>]; 2] = [&[Some(1), KEEP], &[KEEP, Some(9_007_199_254_740_992)]];
-    let second: [&[Option<i64>]; 2] = [&[Some(1), Some(9_007_199_254_740_992)], &[KEEP, KEEP]];
-    let least: [&[Option<i64>]; 1] = [&[Some(-9_007_199_254_740_991), KEEP]];
-    let cases = [
-        (first.as_slice(), Some((RowCause::Index, Numbers::One(1)))),
-        (
-            second.as_slice(),
-            Some((RowCause::Range, Numbers::Two(0, 1))),
-        ),
-        (least.as_slice(), None),
-    ];
-    for (rows, want) in cases {
-        let batch = Batch::Update(patches(alloc, rows)?);
-        assert!(rt; is_shaped(&schema, &batch));
-        let found = check(&schema, &batch).err();
-        assert_eq!(rt; found, want.map(|(cause, at)| BatchRefused { cause, at }));
-    }
+    let update = Batch::Update(patches(alloc, &[&[Some(7)]])?);
+    put(&rt, alloc, &mut table, &free, &update);
+    assert!(rt; holds(&table, &[(0, &[Some(5)]), (3, &[Some(7)])]));
     Ok(())
 }

@@ -1,7 +1,7 @@
 -- Each arm gives the first millisecond of the moment's unit, which is its bucket.
 use Rattle.std.proofs.Common.{rules}
 use Rattle.cal_units.proofs.BucketLemmas.{moment_bucket_by_value}
-use Rattle.cal_units.proofs.buckets.bucket_moment.Goals as goal
+use Rattle.cal_units.proofs.buckets.unit_start_at.Goals as goal
 
 pub returns-in-Y-clause-bucket : goal.returns-in-Y-clause-bucket
 returns-in-Y-clause-bucket c = moment_bucket_by_value _ _ _ c.requires (search rules)

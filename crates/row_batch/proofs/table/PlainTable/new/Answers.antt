@@ -2,7 +2,7 @@ use Rattle.std.proofs.Common.{List, subst, sym}
 use Rattle.row_batch.specs.declared.batch.Pair.{Pair}
 use Rattle.row_batch.specs.Tables.{IsCounted}
 use Rattle.row_batch.proofs.Keys.{empty_is_counted}
-use Rattle.row_batch.proofs.table.PlainTable.make.Goals as goal
+use Rattle.row_batch.proofs.table.PlainTable.new.Goals as goal
 
 pub returns-clause-counted : goal.returns-clause-counted
 returns-clause-counted c =
