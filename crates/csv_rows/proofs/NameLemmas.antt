@@ -1,13 +1,13 @@
 -- A map of the names of a header that were found.
-use Rattle.std.proofs.Common.{◌≡◌, ℕ, ◌+◌, ◌<◌, List, [], ◌∷◌, ◌++◌, length, get_or, take, Bool, true, false, ◌||◌, cond, Option, Some, None, Ordering, Bor, refl, sym, ap, ◌∙◌, subst}
+use Rattle.std.proofs.Common.{◌≡◌, ℕ, ◌+◌, ◌<◌, List, length, get_or, take, Bool, true, false, ◌||◌, cond, Option, Some, Ordering, Bor, sym, ap, ◌∙◌, subst}
 use Rattle.std.specs.Prelude.{is_some}
 use Rattle.std.specs.BTreeMap.{BTreeMap, get, get_by, Updates}
 use Rattle.std.specs.Cmp.Lexicographic.{slice_cmp}
 use Rattle.std.specs.List.{list_any}
 use Rattle.std.specs.Ordering.{nat_cmp}
 use Rattle.std.specs.Str.{bytes_eq}
-use Rattle.std.proofs.lemmas.List.{take_more}
-use Rattle.std.proofs.lemmas.List.Folds.{list_any-append}
+use Rattle.std.proofs.Math.Bool.{or-true, or-false}
+use Rattle.std.proofs.lemmas.List.Folds.{list_any_more}
 use Rattle.std.proofs.lemmas.Map.Text.{btree_map_updates_str}
 
 -- the map has exactly these names
@@ -24,17 +24,8 @@ is_earlier names name found key old b holds is was test =
     subst (λ s. list_any (λ other. bytes_eq other s) names ≡ b) is (sym (holds key.now) ∙ ap is_some (sym was) ∙ test)
 
 some_if : (b : Bool) (o : Option (Unit {0})) → is_some (cond b (Some tt) o) ≡ (is_some o || b)
-some_if true None = refl
-some_if true (Some u) = refl
-some_if false None = refl
-some_if false (Some u) = refl
-
-or_none : (b : Bool) → (b || false) ≡ b
-or_none true = refl
-or_none false = refl
-
-any-snoc : (test : List ℕ → Bool) (names : List (List ℕ)) (name : List ℕ) → list_any test (names ++ name ∷ []) ≡ (list_any test names || test name)
-any-snoc test names name = list_any-append test names (name ∷ []) ∙ ap (λ b. list_any test names || b) (or_none (test name))
+some_if true o = sym (or-true (is_some o))
+some_if false o = sym (or-false (is_some o))
 
 -- a name more
 pub more_held : (names : List (List ℕ)) (i : ℕ) (name : List ℕ) (old new : BTreeMap (Bor (List ℕ)) (Unit {0})) (key : Bor (List ℕ)) → i < length names
@@ -45,4 +36,4 @@ more_held names i name old new key lt at is put holds = λ s.
     ∙ some_if (bytes_eq key.now s) (get_by (λ (k : Bor (List ℕ)). slice_cmp nat_cmp s k.now) old)
     ∙ ap (λ b. b || bytes_eq key.now s) (holds s)
     ∙ ap (λ n. list_any test (take i names) || bytes_eq n s) (is ∙ at)
-    ∙ sym (ap (list_any test) (take_more names i name lt) ∙ any-snoc test (take i names) (get_or names i name))
+    ∙ sym (list_any_more test names i name lt)

@@ -1,6 +1,7 @@
 -- The records that a reader gives are the records of the text.
-use Rattle.std.proofs.Common.{◌≡◌, ℕ, zero, suc, ◌+◌, ◌<◌, ◌≤◌, eqb, List, [], ◌∷◌, ◌++◌, length, Bool, true, false, ◌&&◌, cond, Option, Some, None, refl, sym, ap, ◌∙◌, subst, arith, take, drop, get_or, drop-cons, add-one}
-use Rattle.std.proofs.Math.Seq.{take-suc}
+use Rattle.std.proofs.Common.{◌≡◌, ℕ, zero, suc, ◌+◌, ◌<◌, ◌≤◌, eqb, List, [], ◌∷◌, ◌++◌, length, Bool, true, false, ◌&&◌, cond, Option, Some, None, refl, sym, ap, ◌∙◌, subst, arith, take, drop, get_or}
+use Rattle.std.proofs.lemmas.Bool.{cond-true, cond-false}
+use Rattle.std.proofs.lemmas.List.{drop_more, take_more}
 use Rattle.std.specs.List.{list_any}
 use Rattle.std.specs.Str.{bytes_eq}
 use Rattle.cell_core.specs.declared.schema.Numbers.TheVariants.{One}
@@ -152,25 +153,19 @@ take-fields (f ∷ fields) (suc i) h = ap (λ y. f ∷ y) (take-fields fields i 
 
 -- ---- the names of a header, in turn
 
-twice-if : (b : Bool) (x y : Option BatchRefused) → b ≡ true → cond b x y ≡ x
-twice-if b x y h = rw h refl
-
-twice-else : (b : Bool) (x y : Option BatchRefused) → b ≡ false → cond b x y ≡ y
-twice-else b x y h = rw h refl
-
 left : (names : List (List ℕ)) (i : ℕ) (name : List ℕ) → i < length names → name ≡ get_or names i name → drop i names ≡ name ∷ drop (i + 1) names
-left names i name h is = rw add-one (drop-cons names i name h ∙ ap (λ x. x ∷ drop (suc i) names) (sym is))
+left names i name h is = drop_more names i name h ∙ ap (λ x. x ∷ drop (i + 1) names) (sym is)
 
 pub twice-here : (names : List (List ℕ)) (i : ℕ) (name : List ℕ) (whole : Option BatchRefused) → i < length names → name ≡ get_or names i name
     → list_any (λ other. bytes_eq other name) (take i names) ≡ true → twice_from (take i names) i (drop i names) ≡ whole
     → Some (record { cause = cause.Twice; at = One i }) ≡ whole
 twice-here names i name whole h is found so =
-    sym (ap (λ x. twice_from (take i names) i x) (left names i name h is) ∙ twice-if (list_any (λ other. bytes_eq other name) (take i names)) _ _ found) ∙ so
+    sym (ap (λ x. twice_from (take i names) i x) (left names i name h is) ∙ cond-true (list_any (λ other. bytes_eq other name) (take i names)) _ _ found) ∙ so
 
 pub twice-next : (names : List (List ℕ)) (i : ℕ) (name : List ℕ) (whole : Option BatchRefused) → i < length names → name ≡ get_or names i name
     → list_any (λ other. bytes_eq other name) (take i names) ≡ false → twice_from (take i names) i (drop i names) ≡ whole
     → twice_from (take (i + 1) names) (i + 1) (drop (i + 1) names) ≡ whole
 twice-next names i name whole h is found so =
-    let front : take i names ++ name ∷ [] ≡ take (i + 1) names = rw (add-one, take-suc names i name h) (ap (λ x. take i names ++ x ∷ []) is) in
+    let front : take i names ++ name ∷ [] ≡ take (i + 1) names = ap (λ x. take i names ++ x ∷ []) is ∙ sym (take_more names i name h) in
     ap (λ x. twice_from x (i + 1) (drop (i + 1) names)) (sym front)
-    ∙ sym (ap (λ x. twice_from (take i names) i x) (left names i name h is) ∙ twice-else (list_any (λ other. bytes_eq other name) (take i names)) _ _ found) ∙ so
+    ∙ sym (ap (λ x. twice_from (take i names) i x) (left names i name h is) ∙ cond-false (list_any (λ other. bytes_eq other name) (take i names)) _ _ found) ∙ so

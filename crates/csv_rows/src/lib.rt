@@ -11,6 +11,3 @@ mod records;
 mod rows;
 
 pub use rows::csv_patches;
-
-#[cfg(test)]
-mod tests;

@@ -4,7 +4,8 @@ ghost use Rattle.row_batch.specs.Checks.{IsChecked};
 ghost use Rattle.row_batch.specs.Reading.{RefusesRows};
 ghost use Rattle.row_batch.specs.declared.batch.Batch.TheVariants as batch;
 ghost use Rattle.row_cells.specs.Rows.{names_column, read_each};
-ghost use Rattle.csv_rows.specs.Reading.{are_even, field_of, header_fault, read_csv, read_record, read_records, twice_from, unknown_in};
+ghost use Rattle.csv_rows.specs.Reading.{are_even, field_of, header_fault, twice_from, unknown_in};
+ghost use Rattle.csv_rows.specs.Reading.{read_csv, read_record, read_records};
 
 use crate::fields::field_of;
 use crate::records::records;

@@ -1,10 +1,13 @@
 -- What a search for a port tells where it finds none, and where it finds one.
-use Rattle.std.proofs.Common.{◌≡◌, ℕ, ◌<◌, eqb, ltb, get_or, Bool, true, false, cond, not, List, [], ◌∷◌, length, Option, Some, None, position, refl, sym, ap, ◌∙◌, arith, subst}
+use Rattle.std.proofs.Common.{◌≡◌, ℕ, ◌<◌, eqb, ltb, Bool, true, false, cond, List, length, Option, Some, None, position, refl, sym, ap, ◌∙◌, arith, subst}
 use Rattle.std.specs.Prelude.{IfSome}
-use Rattle.std.specs.List.{list_any, prefix_len}
+use Rattle.std.specs.List.{list_any, position_or_len}
 use Rattle.std.proofs.lemmas.Bool.{eqb-true}
 use Rattle.std.proofs.lemmas.Bool.Decides.{nat_tests}
+use Rattle.std.proofs.lemmas.List.Elements.{All-from_get_or}
+use Rattle.std.proofs.lemmas.List.Folds.{list_any_none}
 use Rattle.std.proofs.lemmas.List.Quantifiers.{position-Some}
+use Rattle.std.proofs.lemmas.List.Sums.{fails_before_first}
 use Rattle.port_queue.specs.Queues.{empty_queue}
 use Rattle.hub_ports.specs.Ports.{port_at, port_of}
 use Rattle.hub_ports.specs.declared.ports.Port.{Port}
@@ -13,22 +16,12 @@ past_end : (b : Bool) (n : ℕ) → cond b (Some n) None ≡ None → b ≡ fals
 past_end true n h = absurd (let wrong : Some n ≡ None = h in cc)
 past_end false n h = refl
 
-abbrev IsAbsent : (Port → Bool) → List Port → Type 0
-IsAbsent test ps = ltb (prefix_len (λ p. not (test p)) ps) (length ps) ≡ false
-
-absent_step : (test : Port → Bool) (p : Port) (ps : List Port) (b : Bool) → test p ≡ b → IsAbsent test (p ∷ ps)
-    → (IsAbsent test ps → list_any test ps ≡ false) → list_any test (p ∷ ps) ≡ false
-absent_step test p ps true is absent more = absurd (let wrong = rw is at absent in grind (arith, nat_tests, wrong))
-absent_step test p ps false is absent more =
-    let rest = rw is at absent in
-    rw is (more (grind (arith, nat_tests, rest)))
-
-absent : (test : Port → Bool) (ps : List Port) → IsAbsent test ps → list_any test ps ≡ false
-absent test [] h = refl
-absent test (p ∷ ps) h = absent_step test p ps (test p) refl h (absent test ps)
-
 none_found : (test : Port → Bool) (ps : List Port) → position test ps ≡ None → list_any test ps ≡ false
-none_found test ps h = absent test ps (past_end _ _ h)
+none_found test ps h =
+    let any = port_of 0 empty_queue in
+    let past : ltb (position_or_len test ps) (length ps) ≡ false = past_end _ _ h in
+    let fails = λ (k : ℕ) (lt : k < length ps). fails_before_first test ps k any (grind (arith, nat_tests, past, lt)) in
+    list_any_none test ps (All-from_get_or (λ p. test p ≡ false) ps any fails)
 
 one_found : (number : ℕ) (ps : List Port) (place : ℕ) → position (λ p. eqb p.number number) ps ≡ Some place
     → (place < length ps) × ((port_at ps place).number ≡ number)

@@ -1,25 +1,19 @@
 -- The batches that wait on ports, one port more at a time.
-use Rattle.std.proofs.Common.{◌≡◌, ℕ, suc, ◌+◌, ◌<◌, ◌≤◌, List, [], ◌∷◌, ◌++◌, length, take, get_or, sum_by, refl, sym, ap, ◌∙◌, arith, length-append}
+use Rattle.std.proofs.Common.{◌≡◌, ℕ, ◌+◌, ◌<◌, List, [], ◌∷◌, ◌++◌, length, take, sum_by, ap, ◌∙◌, append-nil, length-append}
+use Rattle.std.proofs.lemmas.List.{take_more}
 use Rattle.std.proofs.lemmas.List.Concat.{flat_map-append}
 use Rattle.std.proofs.lemmas.List.Sums.{sum_by-append}
-use Rattle.std.proofs.Math.Seq.{take-suc}
 use Rattle.row_batch.specs.Batches.{rows_in}
 use Rattle.hub_ports.specs.Ports.{port_at, port_of, waiting_on}
 use Rattle.port_queue.specs.Queues.{empty_queue}
 use Rattle.hub_ports.specs.declared.ports.Port.{Port}
 
-append_nil : {X : Type 0} (xs : List X) → xs ++ [] ≡ xs
-append_nil [] = refl
-append_nil (x ∷ xs) = ap (λ ys. x ∷ ys) (append_nil xs)
-
 pub waiting_on-more : (live : List Port) (i : ℕ) → i < length live
     → waiting_on (take (i + 1) live) ≡ waiting_on (take i live) ++ (port_at live i).queue.waiting
 waiting_on-more live i lt =
-    let next : i + 1 ≡ suc i = omega arith in
-    ap (λ k. waiting_on (take k live)) next
-    ∙ ap waiting_on (take-suc live i (port_of 0 empty_queue) lt)
+    ap waiting_on (take_more live i (port_of 0 empty_queue) lt)
     ∙ flat_map-append (λ p. p.queue.waiting) (take i live) (port_at live i ∷ [])
-    ∙ ap (λ bs. waiting_on (take i live) ++ bs) (append_nil (port_at live i).queue.waiting)
+    ∙ ap (λ bs. waiting_on (take i live) ++ bs) (append-nil (port_at live i).queue.waiting)
 
 pub batches-more : (live : List Port) (i : ℕ) → i < length live
     → length (waiting_on (take (i + 1) live)) ≡ length (waiting_on (take i live)) + length (port_at live i).queue.waiting

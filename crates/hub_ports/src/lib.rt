@@ -6,4 +6,4 @@
 
 mod ports;
 
-pub use ports::{MAX_PORTS, Port, Ports, PutRefused};
+pub use ports::{MAX_NUMBER, MAX_PORTS, Port, Ports, PutRefused};

@@ -1,20 +1,24 @@
-ghost use Rattle.std.specs.Prelude.{◌≡◌, ◌*◌, ◌<◌, ◌≤◌, ◌==◌, nat_le, length, position, slice_get, sum_by, false, None, IfOk, IfSome, OnOk, OnErr};
+ghost use Rattle.std.specs.Prelude.{◌≡◌, ◌*◌, ◌<◌, ◌≤◌, ◌==◌, ◌↔◌, nat_le, length, position, slice_get, sum_by};
+ghost use Rattle.std.specs.Prelude.{false, None, IfOk, IfSome, IsErrOf, OnOk, OnErr};
 ghost use Rattle.std.specs.List.{list_any};
 ghost use Rattle.row_batch.specs.Batches.{rows_in};
 ghost use Rattle.port_queue.specs.Queues.{put_outcome};
-ghost use Rattle.hub_ports.specs.Ports.{no_ports, with_port, port_at, put_on, taken_off, closed_at, settled, waiting_on, PutAnswers};
+ghost use Rattle.hub_ports.specs.Ports.{no_ports, with_port, port_at, put_on, taken_off, closed_at, settled};
+ghost use Rattle.hub_ports.specs.Ports.{waiting_on, PutAnswers};
 
 use cell_core::Memory;
-use port_queue::{PortQueue, QueueRefused};
+use port_queue::{MAX_WAITING, PortQueue, QueueRefused};
 use row_batch::{Batch, MAX_BATCH};
 use std::alloc::Global;
+use std::error::Error;
+use std::fmt;
 use std::marker::Model;
 
 /// The most ports that are open or hold waiting batches.
 pub const MAX_PORTS: usize = 16;
 
-/// How many ports can be made, and how many batches put on one. No history is so long.
-const MAX_NUMBER: u64 = 1 << 62;
+/// How many ports can be made, and how many batches put on one: 2^62. No history is so long.
+pub const MAX_NUMBER: u64 = 1 << 62;
 
 /// A port that is open or holds waiting batches.
 #[derive(Drop)]
@@ -27,11 +31,25 @@ pub struct Port {
 /// Why a batch is not put on a port.
 #[derive(Clone, Copy, Debug, Drop, PartialEq, Eq)]
 pub enum PutRefused {
+    /// The port was closed.
     Closed,
+    /// 64 batches wait.
     Full,
-    /// The numbers of batches are used up.
+    /// `MAX_NUMBER` batches were put on the port, so that its numbers are used up. It counts as want of memory.
     Memory,
 }
+
+impl fmt::Display for PutRefused {
+    fn fmt<W: fmt::Write>(&self, f: &mut fmt::Formatter<W>) -> fmt::Result {
+        match self {
+            PutRefused::Closed => write!(f, "the port is closed"),
+            PutRefused::Full => write!(f, "{MAX_WAITING} batches wait on the port"),
+            PutRefused::Memory => write!(f, "the numbers of the port's batches are used up"),
+        }
+    }
+}
+
+impl Error for PutRefused {}
 
 /// The ports that are open or hold waiting batches, ascending by number.
 #[derive(Drop)]
@@ -76,7 +94,8 @@ impl Ports {
         self.made
     }
 
-    /// Makes a port, and answers its number. After want of memory nothing has changed.
+    /// Makes a port, and answers its number. Want of memory, after which nothing has changed, is the answer too
+    /// once `MAX_NUMBER` ports were made.
     pub fn add(&mut self, alloc: Global) -> Result<u64, Memory>
         requires { length self.old.live < 16 }
         ensures number { IfOk result (λ number. number ≡ self.old.made) }
@@ -126,12 +145,14 @@ impl Ports {
         &self.live[place].queue
     }
 
-    /// Puts a batch on the port at a place, and answers the batch's number there, counted from 1. After
-    /// a refusal nothing has changed, and the batch is gone.
+    /// Puts a batch on the port at a place, and answers the batch's number there, counted from 1. It takes
+    /// no memory. After a refusal nothing has changed, and the batch is gone.
     pub fn put(&mut self, place: usize, batch: Batch) -> Result<u64, PutRefused>
         requires within { place < length self.old.live }
         requires small { rows_in batch ≤ MAX_BATCH }
         ensures outcome { PutAnswers (put_outcome (port_at self.old.live place).queue batch) batch result }
+        ensures memory { IsErrOf result PutRefused.Memory
+            ↔ (MAX_NUMBER ≤ (port_at self.old.live place).queue.accepted) }
         ensures ok { OnOk result (self.new ≡ record self.old { live = put_on self.old.live place batch }) }
         ensures err { OnErr result (self.new ≡ self.old) }
     {

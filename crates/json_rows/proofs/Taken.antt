@@ -1,6 +1,7 @@
 -- Rows and keys that were read are a batch that the table takes.
 use Rattle.std.proofs.Common.{◌≡◌, ℕ, List, [], ◌∷◌, length, Bool, true, false, Option, Some, None, Result, Ok, Err, IfOk, refl, sym, ap, ◌∙◌, subst, ltb, cond, option_map}
 use Rattle.plain_data.specs.Faults.{first_fault}
+use Rattle.cell_core.specs.Keepings.{IsIndexed}
 use Rattle.cell_core.specs.RawData.{RawData, raw_null, raw_bool, raw_int, raw_words, raw_list, raw_map, RawMembers, get_raw}
 use Rattle.cell_core.specs.Schemas.{SchemaData}
 use Rattle.cell_core.specs.declared.cell.Cell.{Cell}
@@ -18,7 +19,7 @@ use Rattle.row_batch.specs.declared.refused.RowsRefused.{RowsRefused}
 use Rattle.row_cells.specs.Rows.{of_row, read_each, read_batch, read_patch, too_many}
 use Rattle.row_cells.proofs.CellFits.{Fits, integer_cell-fits, millis_cell-fits, date_cell-fits, moment_cell-fits, words_cell-fits}
 use Rattle.row_cells.proofs.Checked.{SetFits, IsGoodPatch, read_patch-good, read_batch-checked, set_read-fits, unless_refused-ok, unless-ok, read_batch-keys}
-use Rattle.json_rows.specs.Reading.{items_in, cell_of, patch_cell_of, member_of, names_columns, read_row, lists_faults, rows_across, row_count, read_rows, IsIndexed, index_of, read_key, read_keys}
+use Rattle.json_rows.specs.Reading.{items_in, cell_of, patch_cell_of, member_of, names_columns, read_row, lists_faults, rows_across, row_count, read_rows, index_of, read_key, read_keys}
 
 -- ---- cells
 

@@ -99,14 +99,14 @@ value_at k (raw_list ds) = slice_index_or (items_in ds) k raw_null
 value_at k other = raw_null
 
 -- row k across the lists
-abbrev pub row_at : ℕ → RawMembers → RawMembers
-row_at k no_raw_members = no_raw_members
-row_at k (raw_member name d ms) = raw_member name (value_at k d) (row_at k ms)
+abbrev pub row_across : ℕ → RawMembers → RawMembers
+row_across k no_raw_members = no_raw_members
+row_across k (raw_member name d ms) = raw_member name (value_at k d) (row_across k ms)
 
 -- so many rows across, from row k on
 abbrev pub rows_across : RawMembers → ℕ → ℕ → List RawData
 rows_across ms k zero = []
-rows_across ms k (suc count) = raw_map (row_at k ms) ∷ rows_across ms (k + 1) count
+rows_across ms k (suc count) = raw_map (row_across k ms) ∷ rows_across ms (k + 1) count
 
 -- an object of lists stands for the list of rows across
 abbrev pub read_lists : SchemaData → RawMembers → Result (List (List PatchCell)) BatchRefused
@@ -122,12 +122,6 @@ read_rows schema (raw_map ms) = read_lists schema ms
 read_rows schema other = Err (of_whole cause.Shape)
 
 -- ---- keys
-
--- the table has an index
-abbrev pub IsIndexed : Keeping → Type 0
-IsIndexed (Indexed column) = Unit {0}
-IsIndexed (Limited slots) = ⊥
-IsIndexed Free = ⊥
 
 -- the number and the type of the index column
 abbrev pub index_of : SchemaData → Option (ℕ × CellType)

@@ -1,14 +1,16 @@
 ghost use Rattle.std.specs.Prelude.{◌≡◌, true, IfOk, IfErr, Ok, map};
+ghost use Rattle.plain_data.specs.Faults.{first_fault};
 ghost use Rattle.cell_core.specs.RawViews.{raw_view, map_view, members_of};
 ghost use Rattle.row_batch.specs.Reading.{RefusesRows};
-ghost use Rattle.row_cells.specs.Rows.{read_each, read_patch};
-ghost use Rattle.json_rows.specs.Reading.{are_lists, have_len, is_list, list_len, member_of, names_columns, read_lists, read_row, row_at, row_count, rows_across};
+ghost use Rattle.row_cells.specs.Rows.{of_whole, read_each, read_patch};
+ghost use Rattle.json_rows.specs.Reading.{are_lists, have_len, is_list, list_len, lists_faults, member_of, names_columns};
+ghost use Rattle.json_rows.specs.Reading.{read_lists, read_row, row_across, row_count, rows_across};
 
 use crate::cells::across_of;
 use crate::rows::names_columns;
 use cell_core::{Listed, Numbers, Raw, RawMap, Schema, Text};
-use row_batch::{MAX_BATCH, Patch, Patches, RowCause, RowsRefused};
-use row_cells::{placed, refused, too_many};
+use row_batch::{BatchRefused, MAX_BATCH, Patch, Patches, RowCause, RowsRefused};
+use row_cells::{placed, too_many};
 use std::alloc::Global;
 use std::collections::BTreeMap;
 
@@ -22,20 +24,40 @@ pub(crate) fn across_rows(
     ensures err { IfErr result (RefusesRows (read_lists schema.now (map_view lists.now))) }
 {
     let members = lists.entries();
-    if !names_columns(schema, members) {
-        return Err(refused(RowCause::Unknown, Numbers::Zero));
-    }
-    if !are_lists(members) {
-        return Err(refused(RowCause::Shape, Numbers::Zero));
+    if let Some(why) = lists_fault(schema, members) {
+        return Err(RowsRefused::Bad(why));
     }
     let count = row_count(members);
-    if !have_len(count, members) {
-        return Err(refused(RowCause::Length, Numbers::Zero));
-    }
     if count > MAX_BATCH {
         return Err(too_many(count));
     }
     patches(alloc, schema, lists, count)
+}
+
+/// The first cause against the whole.
+fn lists_fault(schema: &Schema, members: &BTreeMap<Text, Raw>) -> Option<BatchRefused>
+    ensures { result ≡ first_fault (lists_faults schema.now.columns
+        (members_of (map (λ m. (m.0, raw_view m.1)) members.now.entries))) }
+{
+    if !names_columns(schema, members) {
+        return Some(of_whole(RowCause::Unknown));
+    }
+    if !are_lists(members) {
+        return Some(of_whole(RowCause::Shape));
+    }
+    if !have_len(row_count(members), members) {
+        return Some(of_whole(RowCause::Length));
+    }
+    None
+}
+
+fn of_whole(cause: RowCause) -> BatchRefused
+    ensures { result ≡ of_whole cause }
+{
+    BatchRefused {
+        cause,
+        at: Numbers::Zero,
+    }
 }
 
 fn are_lists(members: &BTreeMap<Text, Raw>) -> bool
@@ -93,8 +115,10 @@ fn patches(
     count: usize,
 ) -> Result<Patches, RowsRefused>
     requires { names_columns schema.now.columns (map_view lists.now) ≡ true }
-    ensures ok { IfOk result (λ patches. read_each (read_row schema.now) 0 (rows_across (map_view lists.now) 0 count) ≡ Ok patches) }
-    ensures err { IfErr result (RefusesRows (read_each (read_row schema.now) 0 (rows_across (map_view lists.now) 0 count))) }
+    ensures ok { IfOk result (λ patches.
+        read_each (read_row schema.now) 0 (rows_across (map_view lists.now) 0 count) ≡ Ok patches) }
+    ensures err { IfErr result (RefusesRows
+        (read_each (read_row schema.now) 0 (rows_across (map_view lists.now) 0 count))) }
 {
     let mut found = Listed::new(alloc);
     for row in 0..count {
@@ -109,8 +133,10 @@ fn across_patch(
     lists: &RawMap,
     row: usize,
 ) -> Result<Patch, RowsRefused>
-    ensures ok { IfOk result (λ patch. read_patch schema.now row (member_of (row_at row (map_view lists.now))) ≡ Ok patch) }
-    ensures err { IfErr result (RefusesRows (read_patch schema.now row (member_of (row_at row (map_view lists.now))))) }
+    ensures ok { IfOk result (λ patch.
+        read_patch schema.now row (member_of (row_across row (map_view lists.now))) ≡ Ok patch) }
+    ensures err { IfErr result (RefusesRows
+        (read_patch schema.now row (member_of (row_across row (map_view lists.now))))) }
 {
     let columns = schema.columns();
     let mut cells = Listed::new(alloc);

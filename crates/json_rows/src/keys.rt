@@ -1,10 +1,11 @@
 ghost use Rattle.std.specs.Prelude.{◌≡◌, IfOk, IfErr, Ok, map, Some};
+ghost use Rattle.cell_core.specs.Keepings.{IsIndexed};
 ghost use Rattle.cell_core.specs.RawViews.{raw_view};
 ghost use Rattle.row_batch.specs.Checks.{IsChecked};
 ghost use Rattle.row_batch.specs.Reading.{RefusesRows};
 ghost use Rattle.row_batch.specs.declared.batch.Batch.TheVariants as batch;
 ghost use Rattle.row_cells.specs.Rows.{read_each};
-ghost use Rattle.json_rows.specs.Reading.{IsIndexed, read_key, read_keys};
+ghost use Rattle.json_rows.specs.Reading.{read_key, read_keys};
 
 use crate::cells::cell_of;
 use cell_core::{CellType, Cells, Keeping, Listed, Numbers, Raw, Schema};
@@ -42,7 +43,8 @@ fn read_keys(alloc: Global, schema: &Schema, keys: &Raw) -> Result<Cells, RowsRe
 }
 
 fn cells(alloc: Global, column: usize, kind: CellType, keys: &[Raw]) -> Result<Cells, RowsRefused>
-    ensures ok { IfOk result (λ cells. read_each (read_key (Some (column, kind))) 0 (map raw_view keys.now) ≡ Ok cells) }
+    ensures ok { IfOk result (λ cells.
+        read_each (read_key (Some (column, kind))) 0 (map raw_view keys.now) ≡ Ok cells) }
     ensures err { IfErr result (RefusesRows (read_each (read_key (Some (column, kind))) 0 (map raw_view keys.now))) }
 {
     let mut found = Listed::new(alloc);

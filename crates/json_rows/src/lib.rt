@@ -14,6 +14,3 @@ mod rows;
 pub use convert::raw_of;
 pub use keys::batch_keys;
 pub use rows::batch_rows;
-
-#[cfg(test)]
-mod tests;

@@ -1,4 +1,5 @@
-ghost use Rattle.std.specs.Prelude.{◌≡◌, ◌+◌, ◌-◌, ◌*◌, nat_le, ◌<◌, ◌≤◌, ◌^◌, length, slice_get, sum_by, Some, option_map, true, OnOk, OnErr, IfOk};
+ghost use Rattle.std.specs.Prelude.{◌≡◌, ◌+◌, ◌-◌, ◌*◌, ◌<◌, ◌≤◌, ◌^◌, nat_le, length, slice_get, sum_by};
+ghost use Rattle.std.specs.Prelude.{Some, option_map, true, OnOk, OnErr, IfOk};
 ghost use Rattle.std.specs.Option.{option_copied};
 ghost use Rattle.row_batch.specs.Batches.{rows_in};
 ghost use Rattle.port_queue.specs.Queues.{empty_queue, put_outcome, with_batch, without_first};
@@ -7,6 +8,8 @@ use cell_core::Memory;
 use circular_buffer::HeapCircularBuffer;
 use row_batch::{Batch, MAX_BATCH};
 use std::alloc::Global;
+use std::error::Error;
+use std::fmt;
 use std::marker::Model;
 
 /// The most batches that may wait on one port.
@@ -20,6 +23,17 @@ pub enum QueueRefused {
     /// 64 batches wait.
     Full,
 }
+
+impl fmt::Display for QueueRefused {
+    fn fmt<W: fmt::Write>(&self, f: &mut fmt::Formatter<W>) -> fmt::Result {
+        match self {
+            QueueRefused::Closed => write!(f, "the port is closed"),
+            QueueRefused::Full => write!(f, "{MAX_WAITING} batches wait on the port"),
+        }
+    }
+}
+
+impl Error for QueueRefused {}
 
 /// The batches that wait on a port, the oldest first.
 #[derive(Drop)]
@@ -103,6 +117,7 @@ impl PortQueue {
         self.closed = true;
     }
 
+    /// Whether the port was closed.
     pub fn is_closed(&self) -> bool
         ensures { result ≡ self.now.closed }
     {

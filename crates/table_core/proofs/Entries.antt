@@ -14,7 +14,7 @@ use Rattle.row_batch.specs.Changes.{entries_of, row_at}
 use Rattle.row_batch.specs.Tables.{keys_of_rows}
 use Rattle.row_batch.proofs.Lookups.{derived_same, same_law, same_decides, not_same}
 use Rattle.row_batch.proofs.Steps.{distinct_from}
-use Rattle.table_core.specs.Lookups.{pairs_of, Puts, one_if, puts_in, settled}
+use Rattle.table_core.specs.Lookups.{pairs_of, ChangesKey, one_if, puts_in, settled_row}
 
 -- ---- the derived comparison
 
@@ -27,7 +27,7 @@ pub found : {V : Type 0} (q : Cell) (es : List (Cell × V)) → lookup (cell_eq.
 found q es = lookup_alike (cell_eq.ghosts.eq q) (same_cell q) (derived_same q) es
 
 pub puts_from : {V : Type 0} (old new : List (Cell × V)) (key : Cell) (w : Option V)
-    → ((q : Cell) → lookup (cell_eq.ghosts.eq q) new ≡ cond (cell_eq.ghosts.eq key q) w (lookup (cell_eq.ghosts.eq q) old)) → Puts old key w new
+    → ((q : Cell) → lookup (cell_eq.ghosts.eq q) new ≡ cond (cell_eq.ghosts.eq key q) w (lookup (cell_eq.ghosts.eq q) old)) → ChangesKey old key w new
 puts_from old new key w h q =
     sym (found q new) ∙ h q ∙ ap (λ b. cond b w (lookup (cell_eq.ghosts.eq q) old)) (derived_same key q) ∙ ap (λ rest. cond (same_cell key q) w rest) (found q old)
 
@@ -74,18 +74,14 @@ puts_in-more es i b h = count_by_case es i (slice_get es i) b refl h
 
 -- ---- keys that are settled one by one
 
-absent_step : {V : Type 0} (q : Cell) (e : Cell × V) (es : List (Cell × V)) → All (λ k. k ≢ q) (keys_of (e ∷ es)) → (All (λ k. k ≢ q) (keys_of es) → lookup (same_cell q) es ≡ None)
-    → lookup (same_cell q) (e ∷ es) ≡ None
-absent_step q e es other more =
-    let apart : same_cell q e.0 ≡ false = not_same q e.0 (All-head (λ k. k ≢ q) e.0 (keys_of es) other) in
-    rw apart (more (All-tail (λ k. k ≢ q) e.0 (keys_of es) other))
-
 absent : {V : Type 0} (q : Cell) (es : List (Cell × V)) → All (λ k. k ≢ q) (keys_of es) → lookup (same_cell q) es ≡ None
 absent q [] other = refl
-absent q (e ∷ es) other = absent_step q e es other (absent q es)
+absent q (e ∷ es) other =
+    let apart : same_cell q e.0 ≡ false = not_same q e.0 (All-head (λ k. k ≢ q) e.0 (keys_of es) other) in
+    rw apart (absent q es (All-tail (λ k. k ≢ q) e.0 (keys_of es) other))
 
 settled_case : (e : Cell × Option (List Cell)) (es : List (Cell × Option (List Cell))) (old new : List (Cell × List Cell)) (q : Cell) (b : Bool) → same_cell e.0 q ≡ b
-    → All (λ k. k ≢ e.0) (keys_of es) → Puts old e.0 e.1 new → settled es new q ≡ settled (e ∷ es) old q
+    → All (λ k. k ≢ e.0) (keys_of es) → ChangesKey old e.0 e.1 new → settled_row es new q ≡ settled_row (e ∷ es) old q
 settled_case e es old new q true is other puts =
     let asked : same_cell q e.0 ≡ true = same_law.symm q e.0 ∙ is in
     let here : e.0 ≡ q = (same_decides e.0 q).0 is in
@@ -98,5 +94,5 @@ settled_case e es old new q false is other puts =
     rw asked (ap (λ r. unwrap_or (lookup (same_cell q) es) r) value)
 
 pub settled_step : (e : Cell × Option (List Cell)) (es : List (Cell × Option (List Cell))) (old new : List (Cell × List Cell)) (q : Cell)
-    → All (λ k. k ≢ e.0) (keys_of es) → Puts old e.0 e.1 new → settled es new q ≡ settled (e ∷ es) old q
+    → All (λ k. k ≢ e.0) (keys_of es) → ChangesKey old e.0 e.1 new → settled_row es new q ≡ settled_row (e ∷ es) old q
 settled_step e es old new q other puts = settled_case e es old new q (same_cell e.0 q) refl other puts

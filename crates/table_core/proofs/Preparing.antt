@@ -1,5 +1,5 @@
 -- From a draft to what is prepared, and from that to the rows.
-use Rattle.std.proofs.Common.{◌≡◌, ℕ, ◌^◌, ◌<◌, ◌≤◌, List, [], ◌∷◌, ◌++◌, length, fold, Option, sym, ap, ◌∙◌, subst, arith}
+use Rattle.std.proofs.Common.{◌≡◌, ℕ, ◌^◌, ◌<◌, ◌≤◌, List, [], ◌∷◌, ◌++◌, length, fold, Option, refl, sym, ap, ◌∙◌, subst, arith}
 use Rattle.std.specs.Map.{lookup, keys_of}
 use Rattle.std.specs.Option.{unwrap_or}
 use Rattle.std.proofs.lemmas.List.Elements.{All-weaker}
@@ -23,9 +23,9 @@ use Rattle.row_batch.proofs.ChangeLists as lists
 use Rattle.row_batch.proofs.Kept.{counted_table, batch_keeps_table}
 use Rattle.row_batch.proofs.Lookups.{permuted}
 use Rattle.row_batch.proofs.Steps.{number_of}
-use Rattle.table_core.specs.declared.draft.Draft.{Draft}
-use Rattle.table_core.specs.Drafts.{drafted, IsDraftFor}
-use Rattle.table_core.specs.Lookups.{pairs_of, puts_in, settled}
+use Rattle.table_core.specs.declared.draft.DraftedBatch.{DraftedBatch}
+use Rattle.table_core.specs.Drafts.{drafted_store, IsDraftFor}
+use Rattle.table_core.specs.Lookups.{pairs_of, puts_in, settled_row}
 use Rattle.table_core.specs.Prepared.{IsPrepared}
 use Rattle.table_core.specs.Tables.{TableData}
 use Rattle.table_core.proofs.Entries.{row_at-pairs, keys_of-pairs}
@@ -41,15 +41,14 @@ number_after keeping width t s (patch ∷ patches) same =
 
 -- ---- a draft with no rows left
 
-pub cleared_store : (rows : List Pair) (d : Draft) → IsDraftFor rows d → d.changes.items ≡ clearing rows → d.number ≡ 0 → drafted rows d ≡ empty_store
+pub cleared_store : (rows : List Pair) (d : DraftedBatch) → IsDraftFor rows d → d.changes.items ≡ clearing rows → d.number ≡ 0 → drafted_store rows d ≡ empty_store
 cleared_store rows d is changes number =
-    let store : List Pair → ℕ → Store = λ ps n. record { pairs = ps; number = n } in
-    let none : (drafted rows d).pairs ≡ [] = ap (changed_all rows) changes ∙ lists.clearing_leads rows is.distinct in
-    ap (λ ps. store ps d.number) none ∙ ap (store []) number
+    let none : (drafted_store rows d).pairs ≡ [] = ap (changed_all rows) changes ∙ lists.clearing_leads rows is.distinct in
+    rw (none, number) refl
 
 -- ---- what is prepared
 
-pub prepared : (t : TableData) (b : Batch) (d : Draft) → IsSchema t.schema → IsChecked t.schema b → IsTable t.schema t.store → IsDraftFor t.store.pairs d
+pub prepared : (t : TableData) (b : Batch) (d : DraftedBatch) → IsSchema t.schema → IsChecked t.schema b → IsTable t.schema t.store → IsDraftFor t.store.pairs d
     → d.changes.items ≡ changes_of t.schema t.store b → d.number ≡ (put_batch t.schema t.store b).number → puts_in d.finals.entries ≤ t.room
     → IsPrepared t b d.changes.items d.finals.entries d.number
 prepared t b d good checked table is changes number room =
@@ -72,7 +71,7 @@ prepared t b d good checked table is changes number room =
 -- ---- the rows after it
 
 pub applied : (t : TableData) (b : Batch) (cs : List RowChange) (finals : List (Cell × Option (List Cell))) (n : ℕ) (old new : List (Cell × List Cell))
-    → IsPrepared t b cs finals n → t.store.pairs ≡ pairs_of old → AreDistinct (keys_of new) → ((q : Cell) → lookup (same_cell q) new ≡ settled finals old q)
+    → IsPrepared t b cs finals n → t.store.pairs ≡ pairs_of old → AreDistinct (keys_of new) → ((q : Cell) → lookup (same_cell q) new ≡ settled_row finals old q)
     → IsReordered (put_batch t.schema t.store b) (record { pairs = pairs_of new; number = n })
 applied t b cs finals n old new is was distinct rows =
     record {
@@ -86,18 +85,12 @@ applied t b cs finals n old new is was distinct rows =
 
 pub update_number : (schema : SchemaData) (s : Store) (b : Batch) (keeping : Keeping) (width : ℕ) (ps patches : List (List PatchCell)) → keeping ≡ schema.keeping → width ≡ length schema.columns
     → ps ≡ patches → b ≡ batch.Update patches → (fold (put_patch keeping width) s ps).number ≡ (put_batch schema s b).number
-update_number schema s b keeping width ps patches ek ew ep eb =
-    ap (λ k. (fold (put_patch k width) s ps).number) ek ∙ ap (λ w. (fold (put_patch schema.keeping w) s ps).number) ew
-    ∙ ap (λ x. (fold (put_patch schema.keeping (length schema.columns)) s x).number) ep ∙ sym (ap (λ x. (put_batch schema s x).number) eb)
+update_number schema s b keeping width ps patches ek ew ep eb = rw (ek, ew, ep, eb) refl
 
 pub replace_number : (schema : SchemaData) (s : Store) (b : Batch) (keeping : Keeping) (width : ℕ) (ps patches : List (List PatchCell)) → keeping ≡ schema.keeping → width ≡ length schema.columns
     → ps ≡ patches → b ≡ batch.Replace patches → (fold (put_patch keeping width) empty_store ps).number ≡ (put_batch schema s b).number
-replace_number schema s b keeping width ps patches ek ew ep eb =
-    ap (λ k. (fold (put_patch k width) empty_store ps).number) ek ∙ ap (λ w. (fold (put_patch schema.keeping w) empty_store ps).number) ew
-    ∙ ap (λ x. (fold (put_patch schema.keeping (length schema.columns)) empty_store x).number) ep ∙ sym (ap (λ x. (put_batch schema s x).number) eb)
+replace_number schema s b keeping width ps patches ek ew ep eb = rw (ek, ew, ep, eb) refl
 
 pub replace_changes : (schema : SchemaData) (s : Store) (b : Batch) (keeping : Keeping) (width : ℕ) (ps patches : List (List PatchCell)) → keeping ≡ schema.keeping → width ≡ length schema.columns
     → ps ≡ patches → b ≡ batch.Replace patches → clearing s.pairs ++ step_changes keeping width empty_store ps ≡ changes_of schema s b
-replace_changes schema s b keeping width ps patches ek ew ep eb =
-    ap (λ k. clearing s.pairs ++ step_changes k width empty_store ps) ek ∙ ap (λ w. clearing s.pairs ++ step_changes schema.keeping w empty_store ps) ew
-    ∙ ap (λ x. clearing s.pairs ++ step_changes schema.keeping (length schema.columns) empty_store x) ep ∙ sym (ap (changes_of schema s) eb)
+replace_changes schema s b keeping width ps patches ek ew ep eb = rw (ek, ew, ep, eb) refl

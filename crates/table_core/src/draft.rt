@@ -1,8 +1,10 @@
-ghost use Rattle.std.specs.Prelude.{◌≡◌, ◌+◌, ◌^◌, ◌<◌, ◌≤◌, ◌||◌, [], ◌∷◌, ◌++◌, length, take, fold, is_some, option_copied, option_map, option_to_list, Option, IsTrue, IfOk, OnOk};
+ghost use Rattle.std.specs.Prelude.{◌≡◌, ◌+◌, ◌^◌, ◌<◌, ◌≤◌, ◌||◌, [], ◌∷◌, ◌++◌, length, take, fold, IsTrue};
+ghost use Rattle.std.specs.Prelude.{is_some, option_copied, option_map, option_to_list, Option, IfOk, OnOk};
 ghost use Rattle.cell_core.specs.Schemas.{IsKeeping, IsSchema};
 ghost use Rattle.row_batch.specs.Batches.{put_batch};
 ghost use Rattle.row_batch.specs.Changes.{max_rows, row_at};
-ghost use Rattle.row_batch.specs.Steps.{key_of_step, row_of_step, number_of_step, change_of_step, after_step, step_changes, removal, removals, clearing, changes_of};
+ghost use Rattle.row_batch.specs.Steps.{key_of_step, row_of_step, number_of_step, change_of_step, after_step};
+ghost use Rattle.row_batch.specs.Steps.{step_changes, removal, removals, clearing, changes_of};
 ghost use Rattle.table_core.specs.Lookups.{pairs_of, one_if};
 
 use crate::lookup::{Finals, Rows, find, put, size};
@@ -13,7 +15,7 @@ use std::alloc::Global;
 
 /// The changes of a batch, and what they make of rows that stay as they are meanwhile.
 #[derive(Drop)]
-pub struct Draft {
+pub struct DraftedBatch {
     pub changes: Vec<RowChange>,
     pub finals: Finals,
     /// How many rows there are after the changes.
@@ -25,8 +27,8 @@ pub struct Draft {
 /// The greatest running number, 2^63 - 1.
 const LAST_NUMBER: u64 = 9_223_372_036_854_775_807;
 
-impl Draft {
-    ghost use Rattle.table_core.specs.Drafts.{drafted, change_at, IsDraftFor};
+impl DraftedBatch {
+    ghost use Rattle.table_core.specs.Drafts.{drafted_store, change_at, IsDraftFor};
 
     /// The draft of a batch.
     pub fn of(
@@ -35,17 +37,19 @@ impl Draft {
         rows: &Rows,
         number: u64,
         batch: &Batch,
-    ) -> Result<Draft, Memory>
+    ) -> Result<DraftedBatch, Memory>
         requires few { length rows.now.entries ≤ max_rows }
         requires counted { number < 2 ^ 63 }
         ensures schema { IsSchema schema.now }
         ensures draft { IfOk result (IsDraftFor (pairs_of rows.now.entries)) }
-        ensures changes { IfOk result (λ d. d.changes.items ≡ changes_of schema.now (record { pairs = pairs_of rows.now.entries; number = number }) batch.now) }
-        ensures number { IfOk result (λ d. d.number ≡ (put_batch schema.now (record { pairs = pairs_of rows.now.entries; number = number }) batch.now).number) }
+        ensures changes { IfOk result (λ d. d.changes.items
+            ≡ changes_of schema.now (record { pairs = pairs_of rows.now.entries; number = number }) batch.now) }
+        ensures number { IfOk result (λ d. d.number
+            ≡ (put_batch schema.now (record { pairs = pairs_of rows.now.entries; number = number }) batch.now).number) }
     {
         let keeping = schema.keeping();
         let width = schema.width();
-        let mut draft = Draft::new(alloc, rows, number);
+        let mut draft = DraftedBatch::new(alloc, rows, number);
         match batch {
             Batch::Update(patches) => {
                 draft.put_patches(alloc, rows, keeping, width, patches.as_slice())?;
@@ -67,14 +71,14 @@ impl Draft {
         }
     }
 
-    fn new(alloc: Global, rows: &Rows, number: u64) -> Draft
+    fn new(alloc: Global, rows: &Rows, number: u64) -> DraftedBatch
         requires few { length rows.now.entries ≤ max_rows }
         requires counted { number < 2 ^ 63 }
         ensures draft { IsDraftFor (pairs_of rows.now.entries) result }
         ensures changes { result.changes.items ≡ [] }
         ensures number { result.number ≡ number }
     {
-        Draft {
+        DraftedBatch {
             changes: Vec::new(alloc),
             finals: IndexMap::new(alloc),
             size: size(rows),
@@ -94,9 +98,11 @@ impl Draft {
         requires draft { IsDraftFor (pairs_of rows.now.entries) self.old }
         ensures draft { OnOk result (IsDraftFor (pairs_of rows.now.entries) self.new) }
         ensures changes { OnOk result (self.new.changes.items
-            ≡ self.old.changes.items ++ step_changes keeping width (drafted (pairs_of rows.now.entries) self.old) patches.now) }
+            ≡ self.old.changes.items
+            ++ step_changes keeping width (drafted_store (pairs_of rows.now.entries) self.old) patches.now) }
         ensures number { OnOk result (self.new.number
-            ≡ (fold (after_step keeping width) (drafted (pairs_of rows.now.entries) self.old) patches.now).number) }
+            ≡ (fold (after_step keeping width)
+            (drafted_store (pairs_of rows.now.entries) self.old) patches.now).number) }
     {
         for patch in patches {
             self.put_patch(alloc, rows, keeping, width, patch.as_slice())?;
@@ -116,7 +122,8 @@ impl Draft {
         requires draft { IsDraftFor (pairs_of rows.now.entries) self.old }
         ensures draft { OnOk result (IsDraftFor (pairs_of rows.now.entries) self.new) }
         ensures changes { OnOk result (self.new.changes.items
-            ≡ self.old.changes.items ++ change_of_step keeping width (drafted (pairs_of rows.now.entries) self.old) patch.now ∷ []) }
+            ≡ self.old.changes.items
+            ++ change_of_step keeping width (drafted_store (pairs_of rows.now.entries) self.old) patch.now ∷ []) }
         ensures number { OnOk result (self.new.number ≡ number_of_step keeping self.old.number) }
     {
         let key = step_key(alloc, keeping, width, self.number, patch)?;
@@ -131,7 +138,8 @@ impl Draft {
         requires draft { IsDraftFor (pairs_of rows.now.entries) self.old }
         ensures draft { OnOk result (IsDraftFor (pairs_of rows.now.entries) self.new) }
         ensures changes { OnOk result (self.new.changes.items
-            ≡ self.old.changes.items ++ removals (drafted (pairs_of rows.now.entries) self.old).pairs keys.now) }
+            ≡ self.old.changes.items
+            ++ removals (drafted_store (pairs_of rows.now.entries) self.old).pairs keys.now) }
         ensures number { self.new.number ≡ self.old.number }
     {
         for key in keys {
@@ -145,7 +153,8 @@ impl Draft {
         requires draft { IsDraftFor (pairs_of rows.now.entries) self.old }
         ensures draft { OnOk result (IsDraftFor (pairs_of rows.now.entries) self.new) }
         ensures changes { OnOk result (self.new.changes.items
-            ≡ self.old.changes.items ++ option_to_list (option_map (removal key.now) (row_at (drafted (pairs_of rows.now.entries) self.old).pairs key.now))) }
+            ≡ self.old.changes.items ++ option_to_list (option_map (removal key.now)
+            (row_at (drafted_store (pairs_of rows.now.entries) self.old).pairs key.now))) }
         ensures number { self.new.number ≡ self.old.number }
     {
         if self.current(rows, key).is_none() {
@@ -187,7 +196,7 @@ impl Draft {
     /// The row that stands at the key after the changes.
     fn current<'a>(&'a self, rows: &'a Rows, key: &Cell) -> Option<&'a Row>
         requires draft { IsDraftFor (pairs_of rows.now.entries) self.now }
-        ensures { option_copied result ≡ row_at (drafted (pairs_of rows.now.entries) self.now).pairs key.now }
+        ensures { option_copied result ≡ row_at (drafted_store (pairs_of rows.now.entries) self.now).pairs key.now }
     {
         match find(&self.finals, key) {
             Some(row) => row.as_ref(),
@@ -204,9 +213,11 @@ impl Draft {
         new: Option<Row>,
     ) -> Result<(), Memory>
         requires draft { IsDraftFor (pairs_of rows.now.entries) self.old }
-        requires row { IsTrue (is_some (row_at (drafted (pairs_of rows.now.entries) self.old).pairs key) || is_some new) }
+        requires row { IsTrue
+            (is_some (row_at (drafted_store (pairs_of rows.now.entries) self.old).pairs key) || is_some new) }
         ensures draft { OnOk result (IsDraftFor (pairs_of rows.now.entries) self.new) }
-        ensures changes { OnOk result (self.new.changes.items ≡ self.old.changes.items ++ change_at (pairs_of rows.now.entries) self.old key new ∷ []) }
+        ensures changes { OnOk result (self.new.changes.items
+            ≡ self.old.changes.items ++ change_at (pairs_of rows.now.entries) self.old key new ∷ []) }
         ensures number { self.new.number ≡ self.old.number }
     {
         let old = copied(alloc, self.current(rows, &key))?;

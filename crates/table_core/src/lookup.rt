@@ -1,10 +1,11 @@
-ghost use Rattle.std.specs.Prelude.{◌≡◌, ◌+◌, ◌<◌, ◌≤◌, length, slice_get, option_copied, option_map, is_some, Option, OnOk};
+ghost use Rattle.std.specs.Prelude.{◌≡◌, ◌+◌, ◌<◌, ◌≤◌, length, slice_get, OnOk};
+ghost use Rattle.std.specs.Prelude.{option_copied, option_map, is_some, Option};
 ghost use Rattle.std.specs.Map.{keys_of, lookup};
 ghost use Rattle.plain_data.specs.Distinct.{AreDistinct};
 ghost use Rattle.cell_core.specs.declared.cell.Cell.{Cell as CellData};
 ghost use Rattle.cell_core.specs.Cells.{same_cell};
 ghost use Rattle.indexmap.specs.IndexMap.{spare};
-ghost use Rattle.table_core.specs.Lookups.{Puts, one_if, puts_in, settled};
+ghost use Rattle.table_core.specs.Lookups.{ChangesKey, one_if, puts_in, settled_row};
 
 use cell_core::{Cell, Memory, Row};
 use indexmap::IndexMap;
@@ -30,9 +31,9 @@ pub fn size<V>(map: &IndexMap<Cell, V>) -> usize
     map.len()
 }
 
-/// Puts the value under the key, in place of one that stands there.
+/// ChangesKey the value under the key, in place of one that stands there.
 pub fn put<V: Drop>(map: &mut IndexMap<Cell, V>, key: Cell, value: V) -> Result<(), Memory>
-    ensures { OnOk result (Puts map.old.entries key (Option.Some value) map.new.entries) }
+    ensures { OnOk result (ChangesKey map.old.entries key (Option.Some value) map.new.entries) }
 {
     map.insert(key, value)?;
     Ok(())
@@ -65,7 +66,8 @@ fn has_row(finals: &Finals, i: usize) -> bool
 pub fn settle(rows: &mut Rows, finals: Finals)
     requires room { puts_in finals.entries ≤ spare rows.old }
     requires distinct { AreDistinct (keys_of rows.old.entries) }
-    ensures rows { (q : CellData) → lookup (same_cell q) rows.new.entries ≡ settled finals.entries rows.old.entries q }
+    ensures rows { (q : CellData) →
+        lookup (same_cell q) rows.new.entries ≡ settled_row finals.entries rows.old.entries q }
     ensures distinct { AreDistinct (keys_of rows.new.entries) }
 {
     for (key, row) in finals {
@@ -75,7 +77,7 @@ pub fn settle(rows: &mut Rows, finals: Finals)
 
 fn settle_one(rows: &mut Rows, key: Cell, row: Option<Row>)
     requires room { one_if (is_some row) ≤ spare rows.old }
-    ensures rows { Puts rows.old.entries key row rows.new.entries }
+    ensures rows { ChangesKey rows.old.entries key row rows.new.entries }
     ensures distinct { AreDistinct (keys_of rows.new.entries) }
     ensures room { spare rows.old ≤ spare rows.new + one_if (is_some row) }
 {
@@ -87,7 +89,7 @@ fn settle_one(rows: &mut Rows, key: Cell, row: Option<Row>)
 
 fn put_reserved(rows: &mut Rows, key: Cell, row: Row)
     requires room { 0 < spare rows.old }
-    ensures rows { Puts rows.old.entries key (Option.Some row) rows.new.entries }
+    ensures rows { ChangesKey rows.old.entries key (Option.Some row) rows.new.entries }
     ensures distinct { AreDistinct (keys_of rows.new.entries) }
     ensures room { spare rows.old ≤ spare rows.new + 1 }
 {
@@ -95,7 +97,7 @@ fn put_reserved(rows: &mut Rows, key: Cell, row: Row)
 }
 
 fn drop_key(rows: &mut Rows, key: &Cell)
-    ensures rows { Puts rows.old.entries key.now Option.None rows.new.entries }
+    ensures rows { ChangesKey rows.old.entries key.now Option.None rows.new.entries }
     ensures distinct { AreDistinct (keys_of rows.new.entries) }
     ensures room { spare rows.old ≤ spare rows.new }
 {

@@ -5,7 +5,7 @@ ghost use Rattle.row_batch.specs.Checks.{IsChecked};
 ghost use Rattle.row_batch.specs.Tables.{IsTable, IsReordered};
 ghost use Rattle.table_core.specs.Tables.{IsStill};
 
-use crate::draft::Draft;
+use crate::draft::DraftedBatch;
 use crate::lookup::{Finals, Rows, find, puts, settle, size};
 use cell_core::{Cell, Listed, Memory, Row, Schema, Steps};
 use indexmap::IndexMap;
@@ -31,7 +31,11 @@ impl Model for Table {
 
     ghost Value = { TableData };
 
-    ghost view = { λ t. record { schema = t.schema; store = record { pairs = pairs_of t.rows.entries; number = t.number }; room = spare t.rows } };
+    ghost view = { λ t. record {
+      schema = t.schema;
+      store = record { pairs = pairs_of t.rows.entries; number = t.number };
+      room = spare t.rows;
+    } };
 
     ghost invariant = { λ t. IsTable t.schema (record { pairs = pairs_of t.rows.entries; number = t.number }) };
 }
@@ -110,17 +114,17 @@ impl Table {
     }
 
     /// Makes all room and all copies that a batch needs, and leaves the rows as they are, also after want of
-    /// memory. That is the answer too where the batch would make more than 65,536 rows, or a running number
-    /// above 2^63 - 1.
+    /// memory. Each old row is copied once and each new row twice. Want of memory is the answer too where the
+    /// batch would make more than 65,536 rows, or a running number above 2^63 - 1.
     pub fn prepare(&mut self, alloc: Global, batch: &Batch) -> Result<Prepared, Memory>
         requires checked { IsChecked self.old.schema batch.now }
         ensures still { IsStill self.old self.new }
         ensures table { IfOk result (λ prepared. prepared.table ≡ self.new) }
         ensures batch { IfOk result (λ prepared. prepared.batch ≡ batch.now) }
     {
-        let draft = Draft::of(alloc, &self.schema, &self.rows, self.number, batch)?;
+        let draft = DraftedBatch::of(alloc, &self.schema, &self.rows, self.number, batch)?;
         self.rows.reserve(puts(&draft.finals))?;
-        let Draft {
+        let DraftedBatch {
             changes,
             finals,
             size: _,

@@ -8,7 +8,8 @@ use Rattle.serde_json.specs.View.{view, members_view}
 use Rattle.serde_json.proofs.Views.{Entry, put_last}
 use Rattle.cell_core.specs.RawViews.{raw_view, items_of}
 use Rattle.json_rows.specs.RawOf.{raw_data, members_data}
-use Rattle.json_rows.proofs.Members.{items_of-map, entries_view, entries_view-insert_entry, members_data-put}
+use Rattle.cell_core.proofs.Members.{entries_view, entries_view-insert_entry}
+use Rattle.json_rows.proofs.Members.{items_of-map, members_data-put}
 use Rattle.json_rows.proofs.convert.+convert.Goals as goal
 
 pub raw_list-returns : goal.raw_list-returns

@@ -4,7 +4,7 @@ use Rattle.serde_json.specs.View.{view, members_view}
 use Rattle.serde_json.proofs.Views.{Entry}
 use Rattle.cell_core.specs.RawViews.{raw_view}
 use Rattle.json_rows.specs.RawOf.{raw_data, members_data}
-use Rattle.json_rows.proofs.Members.{entries_view}
+use Rattle.cell_core.proofs.Members.{entries_view}
 use Rattle.json_rows.proofs.convert.+convert.Given as goal
 
 -- what is found, and then what is left, is the whole
