@@ -7,13 +7,14 @@ use Rattle.std.specs.Set.{remove_key}
 use Rattle.plain_data.specs.Sorting.{insert_by}
 use Rattle.cell_core.proofs.CellOrder as order
 use Rattle.cell_core.specs.Cells.{cell_order, same_cell}
+use Rattle.cell_core.specs.Limits.{max_rows}
 use Rattle.cell_core.specs.declared.cell.Cell.{Cell}
 use Rattle.plan_types.specs.declared.aggregate.AggName.{AggName}
 use Rattle.agg_core.specs.Aggregates.{is_other, others, ascending}
 use Rattle.agg_core.specs.Bags.{with_other, without_other, IsBagOf}
 use Rattle.agg_core.specs.Pairs.{cells_of, cell_at, with_pair, without_key}
 use Rattle.agg_core.specs.Standing.{CanAdd}
-use Rattle.agg_core.proofs.Cells.{itself, after, before}
+use Rattle.agg_core.proofs.Cells.{same_itself, after, before, Less-from_is_lt}
 use Rattle.agg_core.proofs.PairLists.{IsOrderless, measure-with_pair, measure-without_key, length-cells_of, ArePairs-nil, ArePairs-with_pair, ArePairs-without_key}
 
 -- ---- insertions commute
@@ -34,11 +35,6 @@ not_both a b p = at_side (cell_order a b) refl
     at_side Less is = ap is_lt (before a b is)
     at_side Equal is = let wrong : false ≡ true = ap is_lt (sym is) ∙ p in absurd (cc)
     at_side Greater is = let wrong : false ≡ true = ap is_lt (sym is) ∙ p in absurd (cc)
-
-Less-from_is_lt : (o : Ordering) → is_lt o ≡ true → o ≡ Less
-Less-from_is_lt Less h = refl
-Less-from_is_lt Equal h = absurd (cc)
-Less-from_is_lt Greater h = absurd (cc)
 
 chain : (a b c : Cell) → is_lt (cell_order a b) ≡ true → is_lt (cell_order b c) ≡ true → is_lt (cell_order a c) ≡ true
 chain a b c p q =
@@ -140,9 +136,6 @@ up_ascending cells = up_all [] (others cells) tt
 
 -- ---- what is put in comes out
 
-same_itself : (c : Cell) → same_cell c c ≡ true
-same_itself c = ap is_eq (itself c)
-
 put_front_step : (c y : Cell) (ys : List Cell) (b : Bool) → is_lt (cell_order c y) ≡ b → is_lt (cell_order y c) ≡ false → put c ys ≡ c ∷ ys → put c (y ∷ ys) ≡ c ∷ y ∷ ys
 put_front_step c y ys true is not later = rw is refl
 put_front_step c y ys false is not later =
@@ -215,7 +208,7 @@ length_ascending (c ∷ cells) =
     rw (ascending_more c cells) (omega arith)
 
 -- a bag has room where the pairs have
-pub bag_has_room : (name : AggName) (bag : List Cell) (key c : Cell) → ((pairs : List (Cell × Cell)) × IsBagOf name bag pairs × CanAdd name pairs key c) → length bag < 65536
+pub bag_has_room : (name : AggName) (bag : List Cell) (key c : Cell) → ((pairs : List (Cell × Cell)) × IsBagOf name bag pairs × CanAdd name pairs key c) → length bag < max_rows
 bag_has_room name bag key c (pairs, is, can) =
     let same = ap length is.bag_is in
     let within = length_ascending (cells_of pairs) in

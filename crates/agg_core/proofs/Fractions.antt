@@ -7,6 +7,7 @@ use Rattle.value_core.specs.Reduced.{IsReduced, IsInReach}
 use Rattle.value_core.specs.FractionLaws.{Fraction-unique}
 use Rattle.value_core.specs.declared.fraction.Fraction.{Fraction}
 use Rattle.value_core.specs.declared.value.Value.TheVariants as value
+use Rattle.cell_core.specs.Limits.{max_rows}
 use Rattle.agg_core.specs.Aggregates.{sum_of, mean}
 use Rattle.agg_core.specs.Fractions.{is_ratio, IsRatio-from_test, at_least_one, ratio, ratio_where, fraction_over}
 use Rattle.agg_core.specs.RatioLaws.{lowest-IsReduced}
@@ -52,7 +53,7 @@ fraction_over-none n c none = where-none n c (is_ratio n c) refl none
 pub mean-none : (ns : List ℤ) (count : ℕ) → count ≡ 0 → count ≡ length ns → None ≡ mean ns
 mean-none ns count none is = sym (ap (option_map value.Fraction) (fraction_over-none (sum_of ns) (length ns) (sym is ∙ none)))
 
-pub mean-some : (ns : List ℤ) (sum : ℤ) (count : ℕ) → 0 < count → count ≤ 65536 → IsInReach sum → sum ≡ sum_of ns → count ≡ length ns
+pub mean-some : (ns : List ℤ) (sum : ℤ) (count : ℕ) → 0 < count → count ≤ max_rows → IsInReach sum → sum ≡ sum_of ns → count ≡ length ns
     → (f : Fraction) → IsReduced sum (pos count) f.n f.d → Some (value.Fraction f) ≡ mean ns
 mean-some ns sum count some few within sum_is count_is f reduced =
     let found : fraction_over sum count ≡ Some f = fraction_over-reduced sum count some within (omega arith) f reduced in

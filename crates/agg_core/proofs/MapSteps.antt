@@ -10,15 +10,8 @@ use Rattle.cell_core.specs.declared.cell.Cell.{Cell}
 use Rattle.cell_core.specs.contracts.cell.CellOrd.TheImpl.{ghosts}
 use Rattle.agg_core.specs.Bags.{repeated}
 use Rattle.agg_core.proofs.Ascending.{put}
-use Rattle.agg_core.proofs.Cells.{derived}
+use Rattle.agg_core.proofs.Cells.{of_map}
 use Rattle.agg_core.proofs.Repeats.{Counts, set_more, insert_more, set_less, remove_last, off_absent, count_some}
-
-abbrev Compare : Type 0
-Compare = Cell → Cell → Ordering
-
--- what holds of the order of cells holds of the map's comparison
-pub of_map : (P : Compare → Type 0) → P cell_order → P ghosts.cmp
-of_map P h = subst P (sym derived) h
 
 pub count_raised : (c : Cell) (old new : Counts) (n : ℕ) → new ≡ set_value (is_at (ghosts.cmp c)) old (n + 1) → Some n ≡ lookup (is_at (ghosts.cmp c)) old → IsStrictlySortedBy ghosts.cmp (keys_of old)
     → repeated new ≡ put c (repeated old)

@@ -11,6 +11,7 @@ use Rattle.std.specs.Set.{remove_key}
 use Rattle.std.proofs.lemmas.Map.Views.{IfSome-lookup_from_All}
 use Rattle.cell_core.proofs.CellOrder as order
 use Rattle.cell_core.specs.Cells.{cell_order, same_cell}
+use Rattle.cell_core.specs.Limits.{max_rows}
 use Rattle.cell_core.specs.declared.cell.Cell.{Cell}
 use Rattle.agg_core.specs.Bags.{repeated, AreCounts}
 use Rattle.agg_core.proofs.Ascending.{put, length_put}
@@ -209,7 +210,7 @@ pub count_some : (c : Cell) (es : Counts) (n : ℕ) → All (λ n. 0 < n) (value
 count_some c es n some there = let P = λ (m : ℕ). 0 < m in IfSome_is P (count_at es c) n (IfSome-lookup_from_All P (same_cell c) es some) there
 
 -- a count is small where there are few cells
-pub count_small : (c : Cell) (es : Counts) → length (repeated es) < 65536 → IfSome (count_at es c) (λ n. n < 2 ^ 63)
+pub count_small : (c : Cell) (es : Counts) → length (repeated es) < max_rows → IfSome (count_at es c) (λ n. n < 2 ^ 63)
 count_small c es room = at_count (count_at es c) refl
   where
     at_count : (o : Option ℕ) → count_at es c ≡ o → IfSome o (λ n. n < 2 ^ 63)

@@ -1,21 +1,34 @@
 -- Running sums: what a pair that comes or goes makes of them, and how far from 0 they get.
-use Rattle.std.proofs.Common.{◌≡◌, ℕ, suc, ◌+◌, ◌-◌, ◌*◌, ◌^◌, ◌<◌, ◌≤◌, List, [], ◌∷◌, length, map, Option, Some, None, is_some, cond, All, ℤ, pos, negsuc, neg_ℤ, ◌≤ℤ◌, refl, sym, ap, ◌∙◌, arith, subst}
+use Rattle.std.proofs.Common.{◌≡◌, ℕ, suc, ◌+◌, ◌-◌, ◌*◌, ◌^◌, ◌<◌, ◌≤◌, List, [], ◌∷◌, length, map, Option, Some, None, is_some, cond, All, ℤ, pos, negsuc, neg_ℤ, ◌<ℤ◌, ◌≤ℤ◌, IsTrue, refl, sym, ap, ◌∙◌, arith, subst}
 use Rattle.std.specs.List.{cons_option}
 use Rattle.std.specs.Option.{option_map}
+use Rattle.std.proofs.lemmas.Bool.{ltb-true}
 use Rattle.std.proofs.lemmas.Int.{ints}
 use Rattle.std.proofs.lemmas.List.Elements.{All-head, All-tail}
 use Rattle.value_core.specs.Reduced.{IsInReach}
 use Rattle.cell_core.specs.declared.cell.Cell.{Cell}
 use Rattle.cell_core.specs.declared.cell.Cell.TheVariants as cell
 use Rattle.plan_types.specs.declared.aggregate.AggName.{AggName}
+use Rattle.cell_core.specs.Limits.{is_integer, max_rows}
 use Rattle.agg_core.specs.Aggregates.{numbers, number_in, size_of, sum_of}
 use Rattle.agg_core.specs.Numbers.{plus, minus, size_in, IsSmallSum, IsTotalOf}
 use Rattle.agg_core.specs.Pairs.{cells_of, cell_at, with_pair, without_key}
 use Rattle.agg_core.specs.Standing.{ArePairs, CanAdd}
-use Rattle.agg_core.specs.Types.{IsTaken, IsCellNumber}
+use Rattle.agg_core.specs.Sums.{counted, counted_in}
+use Rattle.agg_core.specs.declared.summed.SumForm.{SumForm}
+use Rattle.agg_core.specs.declared.summed.SumForm.TheVariants as form
+use Rattle.agg_core.specs.Types.{IsTaken}
 use Rattle.agg_core.proofs.PairLists.{IsOrderless, measure-with_pair, measure-without_key, length-cells_of, ArePairs-nil, ArePairs-with_pair, ArePairs-without_key}
 
 -- ---- numbers read from cells one by one
+
+-- as near to 0 as a cell's whole number
+abbrev pub IsCellNumber : ℤ → Type 0
+IsCellNumber n = (neg_ℤ (pos (2 ^ 53)) <ℤ n) × (n <ℤ pos (2 ^ 53))
+
+near_zero : (n : ℤ) → IsTrue (is_integer n) → IsCellNumber n
+near_zero (pos n) h = let less = ltb-true n (2 ^ 53) h in (omega (arith, ints), omega (arith, ints))
+near_zero (negsuc n) h = let less = ltb-true n (2 ^ 53 - 1) h in (omega (arith, ints), omega (arith, ints))
 
 -- each cell gives at most one number, which is small where the cell is taken
 pub record ReadsNumbers (numbers_of : List Cell → List ℤ) (number_of : Cell → Option ℤ) : Type 0 where
@@ -26,7 +39,7 @@ pub record ReadsNumbers (numbers_of : List Cell → List ℤ) (number_of : Cell 
 number_small : (name : AggName) (c : Cell) → IsTaken name c → (n : ℤ) → number_in c ≡ Some n → IsCellNumber n
 number_small name cell.Null taken n is = absurd (cc)
 number_small name (cell.Bool b) taken n is = absurd (cc)
-number_small name (cell.Int m) taken n is = let same : m ≡ n = cc in subst IsCellNumber same taken.1
+number_small name (cell.Int m) taken n is = let same : m ≡ n = cc in subst IsCellNumber same (near_zero m taken.1)
 number_small name (cell.Date d) taken n is = absurd (cc)
 number_small name (cell.Moment t) taken n is = absurd (cc)
 number_small name (cell.Words s) taken n is = absurd (cc)
@@ -38,7 +51,7 @@ size_bounded (negsuc m) is = (omega (arith, ints), omega (arith, ints))
 size_small : (name : AggName) (c : Cell) → IsTaken name c → (n : ℤ) → size_in c ≡ Some n → IsCellNumber n
 size_small name cell.Null taken n is = absurd (cc)
 size_small name (cell.Bool b) taken n is = absurd (cc)
-size_small name (cell.Int m) taken n is = let same : size_of m ≡ n = cc in subst IsCellNumber same (size_bounded m taken.1)
+size_small name (cell.Int m) taken n is = let same : size_of m ≡ n = cc in subst IsCellNumber same (size_bounded m (near_zero m taken.1))
 size_small name (cell.Date d) taken n is = absurd (cc)
 size_small name (cell.Moment t) taken n is = absurd (cc)
 size_small name (cell.Words s) taken n is = absurd (cc)
@@ -52,6 +65,13 @@ map_cons (Some n) ns = refl
 
 pub reads-sizes : ReadsNumbers (λ cells. map size_of (numbers cells)) size_in
 reads-sizes = record { none = refl; more = λ c cells. map_cons (number_in c) (numbers cells); small = size_small }
+
+pub reads-counted : (f : SumForm) → ReadsNumbers (counted f) (counted_in f)
+reads-counted form.Sum = reads-numbers
+reads-counted form.AbsSum = reads-numbers
+reads-counted form.SumAbs = reads-sizes
+reads-counted form.Mean = reads-numbers
+reads-counted form.Avg = reads-numbers
 
 -- ---- one number more
 
@@ -83,10 +103,10 @@ one_at_most (Some n) longer short cells e h = omega arith
 abbrev IsWithin : ℕ → ℤ → Type 0
 IsWithin n s = (neg_ℤ (pos ((2 ^ 53 - 1) * n)) ≤ℤ s) × (s ≤ℤ pos ((2 ^ 53 - 1) * n))
 
-near : (n : ℕ) (s : ℤ) → n ≤ 65536 → IsWithin n s → IsInReach s
+near : (n : ℕ) (s : ℤ) → n ≤ max_rows → IsWithin n s → IsInReach s
 near n s few within = (let low = within.0 in omega (arith, ints), let high = within.1 in omega (arith, ints))
 
-far_below : (n : ℕ) (s : ℤ) → n ≤ 65536 → IsWithin n s → IsSmallSum s
+far_below : (n : ℕ) (s : ℤ) → n ≤ max_rows → IsWithin n s → IsSmallSum s
 far_below n s few within = (let low = within.0 in omega (arith, ints), let high = within.1 in omega (arith, ints))
 
 module _ (numbers_of : List Cell → List ℤ) (number_of : Cell → Option ℤ) (reads : ReadsNumbers numbers_of number_of) where
@@ -163,7 +183,7 @@ module _ (numbers_of : List Cell → List ℤ) (number_of : Cell → Option ℤ)
   one_there name sum count pairs key c is there =
       let now = count_without count pairs key c is.count_is there in omega arith
 
-  pub count_has_room : (name : AggName) (sum : ℤ) (count : ℕ) (pairs : List (Cell × Cell)) → IsTotalOf name numbers_of sum count pairs → length pairs < 65536 → count < 65536
+  pub count_has_room : (name : AggName) (sum : ℤ) (count : ℕ) (pairs : List (Cell × Cell)) → IsTotalOf name numbers_of sum count pairs → length pairs < max_rows → count < max_rows
   count_has_room name sum count pairs is room =
       let within = count_within (cells_of pairs) in
       let same = length-cells_of pairs in
@@ -197,7 +217,7 @@ module _ (numbers_of : List Cell → List ℤ) (number_of : Cell → Option ℤ)
   sum_with name sum count key c o is (pairs, total, can) =
       rw is (total_in_reach name _ _ _ (IsTotalOf-with_pair name sum count pairs key c total can))
 
-  pub room_for : (name : AggName) (sum : ℤ) (count : ℕ) (key c : Cell) → ((pairs : List (Cell × Cell)) × IsTotalOf name numbers_of sum count pairs × CanAdd name pairs key c) → count < 65536
+  pub room_for : (name : AggName) (sum : ℤ) (count : ℕ) (key c : Cell) → ((pairs : List (Cell × Cell)) × IsTotalOf name numbers_of sum count pairs × CanAdd name pairs key c) → count < max_rows
   room_for name sum count key c (pairs, total, can) = count_has_room name sum count pairs total can.room
 
   pub total_with : (name : AggName) (sum : ℤ) (count : ℕ) (key c : Cell) (o : Option ℤ) (sum' : ℤ) (count' : ℕ) → o ≡ number_of c → sum' ≡ plus sum o → count' ≡ count + one_if o

@@ -7,5 +7,8 @@ pub mod Aggregates
 pub mod Standing
 pub mod Counting
 pub mod Numbers
+pub mod Sums
 pub mod Bags
+pub mod Choices
 pub mod Rows
+pub mod Any

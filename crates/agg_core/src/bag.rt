@@ -6,6 +6,7 @@ ghost use Rattle.std.specs.Option.{option_copied};
 ghost use Rattle.std.specs.Set.{remove_key};
 ghost use Rattle.plain_data.specs.Sorting.{insert_by};
 ghost use Rattle.cell_core.specs.Cells.{cell_order, same_cell};
+ghost use Rattle.cell_core.specs.Limits.{max_rows};
 ghost use Rattle.agg_core.specs.Aggregates.{different, is_other, last_of, middle, most_frequent, only_one};
 ghost use Rattle.agg_core.specs.Bags.{repeated, with_other, without_other};
 
@@ -49,7 +50,7 @@ impl Bag {
 
     /// Puts a cell in, unless it is null. After want of memory all is as before.
     pub fn add(&mut self, cell: &Cell) -> Result<(), Memory>
-        requires { length self.old < 65536 }
+        requires { length self.old < max_rows }
         ensures ok { OnOk result (self.new ≡ with_other self.old cell.now) }
         ensures err { OnErr result (self.new ≡ self.old) }
     {
@@ -128,7 +129,8 @@ fn is_other(cell: &Cell) -> bool
 /// Raises the count of a cell.
 fn count_in(alloc: Global, counts: &mut BTreeMap<Cell, u64>, cell: &Cell) -> Result<(), Memory>
     requires { IfSome (lookup (same_cell cell.now) counts.old.entries) (λ n. n < 2 ^ 63) }
-    ensures ok { OnOk result (repeated counts.new.entries ≡ insert_by cell_order cell.now (repeated counts.old.entries)) }
+    ensures ok { OnOk result (repeated counts.new.entries
+        ≡ insert_by cell_order cell.now (repeated counts.old.entries)) }
     ensures some { All (λ n. 0 < n) (values_of counts.old.entries) → All (λ n. 0 < n) (values_of counts.new.entries) }
     ensures by_cell { IsStrictlySortedBy cell_order (keys_of counts.new.entries) }
     ensures err { OnErr result (counts.new.entries ≡ counts.old.entries) }

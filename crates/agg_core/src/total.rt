@@ -1,10 +1,11 @@
-ghost use Rattle.std.specs.Prelude.{◌≡◌, ◌+◌, ◌<◌, ◌≤◌, ◌==◌, pos, is_some, None, Some, if◌then◌else◌};
+ghost use Rattle.std.specs.Prelude.{◌≡◌, ◌+◌, ◌<◌, ◌≤◌, ◌==◌, List, length, ℤ, pos, is_some, None, Some, if◌then◌else◌};
 ghost use Rattle.value_core.specs.declared.value.Value.TheVariants as value;
 ghost use Rattle.value_core.specs.Reduced.{IsInReach};
-ghost use Rattle.agg_core.specs.Aggregates.{number_in, size_of};
+ghost use Rattle.cell_core.specs.Limits.{max_rows};
+ghost use Rattle.agg_core.specs.Aggregates.{mean, number_in, size_of, sum_of};
 ghost use Rattle.agg_core.specs.Numbers.{plus, minus, size_in};
 
-use cell_core::{Cell, Value};
+use cell_core::{Cell, Fraction, Value};
 
 /// The sum of some whole numbers, and how many they are.
 #[derive(Drop)]
@@ -12,7 +13,7 @@ pub struct Total {
     pub sum: i128,
     pub count: u64,
     pub ghost sum_in_reach: { IsInReach sum },
-    pub ghost few: { count ≤ 65536 },
+    pub ghost few: { count ≤ max_rows },
 }
 
 impl Total {
@@ -26,7 +27,7 @@ impl Total {
     /// Counts a number in, where there is one.
     pub fn add(&mut self, number: Option<i128>)
         requires reach { IsInReach (plus self.old.sum number) }
-        requires room { self.old.count < 65536 }
+        requires room { self.old.count < max_rows }
         ensures sum { self.new.sum ≡ plus self.old.sum number }
         ensures count { self.new.count ≡ self.old.count + (if is_some number then 1 else 0) }
     {
@@ -86,4 +87,15 @@ pub fn size(number: i128) -> i128
     ensures { result ≡ size_of number }
 {
     number.unsigned_abs() as i128
+}
+
+/// The mean of the numbers that the total is of, and none where there are none.
+pub fn mean(total: &Total) -> Option<Value>
+    ensures { (ns : List ℤ) → total.now.sum ≡ sum_of ns → total.now.count ≡ length ns → result ≡ mean ns }
+{
+    if total.count == 0 {
+        return None;
+    }
+    let mean = Fraction::reduced(total.sum, total.count as i128);
+    Some(Value::Fraction(mean))
 }

@@ -1,7 +1,8 @@
-ghost use Rattle.std.specs.Prelude.{◌≡◌};
-ghost use Rattle.agg_core.specs.Types.{default_aggregate, is_integer, result_type, takes};
+ghost use Rattle.std.specs.Prelude.{◌≡◌, []};
+ghost use Rattle.agg_core.specs.Aggregates.{aggregate};
+ghost use Rattle.agg_core.specs.Types.{default_aggregate, is_numeric, result_type, takes};
 
-use cell_core::CellType;
+use cell_core::{CellType, Value};
 use plan_types::AggName;
 
 /// The type of an aggregate's values.
@@ -19,14 +20,16 @@ pub fn takes(name: AggName, kind: CellType) -> bool
 {
     match name {
         AggName::Sum | AggName::AbsSum | AggName::SumAbs | AggName::Mean | AggName::Avg => {
-            is_integer(kind)
+            is_numeric(kind)
         }
-        _ => true,
+        AggName::Count | AggName::DistinctCount => true,
+        AggName::Min | AggName::Max | AggName::Unique => true,
+        AggName::First | AggName::Last | AggName::Dominant | AggName::Median => true,
     }
 }
 
-fn is_integer(kind: CellType) -> bool
-    ensures { result ≡ is_integer kind }
+fn is_numeric(kind: CellType) -> bool
+    ensures { result ≡ is_numeric kind }
 {
     matches!(kind, CellType::Integer)
 }
@@ -39,7 +42,9 @@ pub fn result_type(name: AggName, kind: CellType) -> ResultType
         AggName::Sum | AggName::AbsSum | AggName::SumAbs => ResultType::Column(CellType::Integer),
         AggName::Count | AggName::DistinctCount => ResultType::Column(CellType::Integer),
         AggName::Mean | AggName::Avg => ResultType::Fraction,
-        _ => ResultType::Column(kind),
+        AggName::Min | AggName::Max | AggName::Unique => ResultType::Column(kind),
+        AggName::First | AggName::Last => ResultType::Column(kind),
+        AggName::Dominant | AggName::Median => ResultType::Column(kind),
     }
 }
 
@@ -47,8 +52,21 @@ pub fn result_type(name: AggName, kind: CellType) -> ResultType
 pub fn default_aggregate(kind: CellType) -> AggName
     ensures { result ≡ default_aggregate kind }
 {
-    if is_integer(kind) {
+    if is_numeric(kind) {
         return AggName::Sum;
     }
     AggName::Count
+}
+
+/// An aggregate of no cells: a count is 0 there, and any other is null.
+pub fn of_none(name: AggName) -> Option<Value>
+    ensures { result ≡ aggregate name [] }
+{
+    match name {
+        AggName::Count | AggName::DistinctCount => Some(Value::Whole(0)),
+        AggName::Mean | AggName::Avg => None,
+        AggName::Sum | AggName::AbsSum | AggName::SumAbs => None,
+        AggName::Min | AggName::Max | AggName::Unique | AggName::First | AggName::Last => None,
+        AggName::Dominant | AggName::Median => None,
+    }
 }

@@ -1,11 +1,9 @@
 -- The cells of arguments, one after another.
-use Rattle.std.proofs.Common.{◌≡◌, ℕ, ◌+◌, ◌<◌, List, [], ◌∷◌, ◌++◌, map, length, get_or, drop, All, refl, sym, ◌∙◌, ap, add-one, drop-cons, append_assoc}
-use Rattle.std.proofs.lemmas.List.Elements.{All-push}
+use Rattle.std.proofs.Common.{◌≡◌, ℕ, ◌+◌, ◌<◌, List, [], ◌∷◌, ◌++◌, map, length, get_or, drop, refl, sym, ◌∙◌, ap, add-one, drop-cons, append_assoc}
 use Rattle.cell_core.specs.declared.cell.Cell.{Cell}
 use Rattle.plan_types.specs.declared.tree.Tree.{Tree}
 use Rattle.expr_spec.specs.TreeViews.{tree_view, arguments_of}
-use Rattle.expr_spec.specs.Values.{IsOnCalendar, value_in, values_in}
-use Rattle.expr_spec.proofs.CalendarLemmas as calendar
+use Rattle.expr_spec.specs.Values.{value_in, values_in}
 
 -- the cells of the arguments from place i on
 rest : List Tree → ℕ → List Cell → List Cell
@@ -23,8 +21,3 @@ pub values_push : (cells new : List Cell) (c : Cell) (trees : List Tree) (i : �
 unfolding rest
 values_push cells new c trees i t row all h e v n before =
     rw (n, append_assoc cells (c ∷ []) (rest trees (i + 1) row), v) (ap (λ xs. cells ++ xs) (sym (rest-cons trees i t row h e)) ∙ before)
-
-pub calendar_push : (cells new : List Cell) (c : Cell) (t : Tree) (row : List Cell) → c ≡ value_in (tree_view t) row → new ≡ cells ++ c ∷ []
-    → All IsOnCalendar row → All IsOnCalendar cells → All IsOnCalendar new
-calendar_push cells new c t row v n on before =
-    rw (n, v) (All-push IsOnCalendar cells (value_in (tree_view t) row) before (calendar.value_in (tree_view t) row on))

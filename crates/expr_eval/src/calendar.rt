@@ -1,10 +1,10 @@
 ghost use Rattle.std.specs.Prelude.{◌≡◌, pos, option_and_then};
-ghost use Rattle.cal_units.specs.Calendar.{IsDay, IsMoment, year_of, month_of, day_of_month, day_at};
+ghost use Rattle.cal_units.specs.Calendar.{year_of, month_of, day_of_month, day_at};
 ghost use Rattle.expr_spec.specs.Functions.{unit_named, date_unit};
-ghost use Rattle.expr_spec.specs.Values.{IsOnCalendar, on_date, on_moment, bucket_value, date_in, moment_in, hour_of};
+ghost use Rattle.expr_spec.specs.Values.{on_date, on_moment, bucket_value, date_in, moment_in, hour_of};
 
 use crate::numbers::number_bucket;
-use cal_units::{bucket_date, bucket_moment, date_parts};
+use cal_units::{Day, Moment, bucket_date, bucket_moment, date_parts};
 use cell_core::Cell;
 use expr_spec::{date_unit_named, unit_named};
 
@@ -13,7 +13,6 @@ const DAY: i64 = 86_400_000;
 const HOUR: i64 = 3_600_000;
 
 pub fn year(a: &Cell) -> Cell
-    requires { IsOnCalendar a.now }
     ensures { result ≡ on_date (λ day. Cell.Int (pos (year_of day))) a.now }
 {
     match a {
@@ -23,7 +22,6 @@ pub fn year(a: &Cell) -> Cell
 }
 
 pub fn month(a: &Cell) -> Cell
-    requires { IsOnCalendar a.now }
     ensures { result ≡ on_date (λ day. Cell.Int (pos (month_of day))) a.now }
 {
     match a {
@@ -33,7 +31,6 @@ pub fn month(a: &Cell) -> Cell
 }
 
 pub fn day(a: &Cell) -> Cell
-    requires { IsOnCalendar a.now }
     ensures { result ≡ on_date (λ day. Cell.Int (pos (day_of_month day))) a.now }
 {
     match a {
@@ -44,20 +41,12 @@ pub fn day(a: &Cell) -> Cell
 
 /// The day on which a moment lies, in UTC.
 pub fn date_of(a: &Cell) -> Cell
-    requires { IsOnCalendar a.now }
     ensures { result ≡ on_moment (λ ms. Cell.Date (day_at ms)) a.now }
 {
     match a {
-        Cell::Moment(ms) => Cell::Date(day_at(*ms)),
+        Cell::Moment(moment) => Cell::Date(moment.day()),
         _ => Cell::Null,
     }
-}
-
-fn day_at(ms: i64) -> i32
-    requires { IsMoment ms }
-    ensures { result ≡ day_at ms }
-{
-    ms.div_euclid(DAY) as i32
 }
 
 /// The hour of a moment, in UTC.
@@ -65,7 +54,7 @@ pub fn hour(a: &Cell) -> Cell
     ensures { result ≡ on_moment (λ ms. Cell.Int (hour_of ms)) a.now }
 {
     match a {
-        Cell::Moment(ms) => Cell::Int(ms.rem_euclid(DAY).div_euclid(HOUR)),
+        Cell::Moment(moment) => Cell::Int(moment.number().rem_euclid(DAY).div_euclid(HOUR)),
         _ => Cell::Null,
     }
 }
@@ -73,19 +62,17 @@ pub fn hour(a: &Cell) -> Cell
 /// The start of the unit `u` in which `a` lies, and of a number the greatest multiple that is at most
 /// the number.
 pub fn bucket(a: &Cell, u: &Cell) -> Cell
-    requires { IsOnCalendar a.now }
     ensures { result ≡ bucket_value a.now u.now }
 {
     match (a, u) {
         (Cell::Int(a), Cell::Int(n)) => number_bucket(*a, *n),
         (Cell::Date(day), Cell::Words(unit)) => date_in(unit.as_str(), *day),
-        (Cell::Moment(ms), Cell::Words(unit)) => moment_in(unit.as_str(), *ms),
+        (Cell::Moment(moment), Cell::Words(unit)) => moment_in(unit.as_str(), *moment),
         _ => Cell::Null,
     }
 }
 
-fn date_in(unit: &str, day: i32) -> Cell
-    requires { IsDay day }
+fn date_in(unit: &str, day: Day) -> Cell
     ensures { result ≡ date_in (option_and_then date_unit (unit_named unit.now)) day }
 {
     match date_unit_named(unit) {
@@ -94,12 +81,11 @@ fn date_in(unit: &str, day: i32) -> Cell
     }
 }
 
-fn moment_in(unit: &str, ms: i64) -> Cell
-    requires { IsMoment ms }
-    ensures { result ≡ moment_in (unit_named unit.now) ms }
+fn moment_in(unit: &str, moment: Moment) -> Cell
+    ensures { result ≡ moment_in (unit_named unit.now) moment }
 {
     match unit_named(unit) {
-        Some(unit) => Cell::Moment(bucket_moment(ms, unit)),
+        Some(unit) => Cell::Moment(bucket_moment(moment, unit)),
         None => Cell::Null,
     }
 }

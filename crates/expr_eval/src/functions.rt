@@ -1,6 +1,5 @@
-ghost use Rattle.std.specs.Prelude.{◌≡◌, not, IfOk, All};
-ghost use Rattle.row_batch.specs.Checks.{is_null};
-ghost use Rattle.expr_spec.specs.Values.{IsOnCalendar, one_value, two_value, three_value, function_value, if_value};
+ghost use Rattle.std.specs.Prelude.{◌≡◌, IfOk};
+ghost use Rattle.expr_spec.specs.Values.{one_value, two_value, three_value, function_value, if_value};
 
 use crate::calendar::{bucket, date_of, day, hour, month, year};
 use crate::numbers::{absolute, greatest, least};
@@ -11,7 +10,6 @@ use std::alloc::Global;
 
 /// The value of a function at the values of its arguments, and null where it doesn't take so many.
 pub fn function_value(alloc: Global, function: Function, cells: &[Cell]) -> Result<Cell, Memory>
-    requires { All IsOnCalendar cells.now }
     ensures { IfOk result (λ value. value ≡ function_value function cells.now) }
 {
     match cells {
@@ -23,13 +21,12 @@ pub fn function_value(alloc: Global, function: Function, cells: &[Cell]) -> Resu
 }
 
 fn one(function: Function, a: &Cell) -> Cell
-    requires { IsOnCalendar a.now }
     ensures { result ≡ one_value function a.now }
 {
     match function {
         Function::Abs => absolute(a),
-        Function::IsNull => Cell::Bool(is_null(a)),
-        Function::IsNotNull => Cell::Bool(!is_null(a)),
+        Function::IsNull => Cell::Bool(a.is_null()),
+        Function::IsNotNull => Cell::Bool(!a.is_null()),
         Function::Length => characters(a),
         Function::Year => year(a),
         Function::Month => month(a),
@@ -41,7 +38,6 @@ fn one(function: Function, a: &Cell) -> Cell
 }
 
 fn two(alloc: Global, function: Function, a: &Cell, b: &Cell) -> Result<Cell, Memory>
-    requires { IsOnCalendar a.now }
     ensures { IfOk result (λ value. value ≡ two_value function a.now b.now) }
 {
     match function {
@@ -70,10 +66,4 @@ fn three(
         (Function::If, _) => b.copy(alloc),
         _ => Ok(Cell::Null),
     }
-}
-
-fn is_null(cell: &Cell) -> bool
-    ensures { result ≡ is_null cell.now }
-{
-    matches!(cell, Cell::Null)
 }

@@ -2,19 +2,16 @@ ghost use Rattle.std.specs.Prelude.{◌≡◌, pos, ◌+ℤ◌, ◌-ℤ◌, ◌*
 ghost use Rattle.std.specs.Int.{int_min, int_max, int_rem_euclid, IsNonNegative};
 ghost use Rattle.expr_spec.specs.Values.{whole, quotient, rest, number_bucket, on_number, on_numbers};
 
-use cell_core::Cell;
-
-/// The greatest whole number of a cell, 2^53-1. The least is its opposite.
-const MAX_WHOLE: i128 = 9_007_199_254_740_991;
+use cell_core::{Cell, is_integer};
 
 /// The number as a cell, and null where it is out of range.
 pub fn whole(number: i128) -> Cell
     ensures { result ≡ whole number }
 {
-    if number < -MAX_WHOLE || number > MAX_WHOLE {
-        return Cell::Null;
+    match i64::try_from(number) {
+        Ok(number) if is_integer(number) => Cell::Int(number),
+        _ => Cell::Null,
     }
-    Cell::Int(number as i64)
 }
 
 pub fn sum(a: &Cell, b: &Cell) -> Cell

@@ -1,6 +1,5 @@
 ghost use Rattle.std.specs.Prelude.{◌≡◌, ◌||◌, Some, None, if◌then◌else◌};
-ghost use Rattle.cell_core.specs.Cells.{cell_order};
-ghost use Rattle.row_batch.specs.Checks.{is_null};
+ghost use Rattle.cell_core.specs.Cells.{cell_order, is_null};
 ghost use Rattle.expr_eval.specs.Answers.{truth_or_null};
 ghost use Rattle.expr_spec.specs.Values.{unary_value, binary_value, and_value, or_value};
 

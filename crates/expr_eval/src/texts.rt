@@ -3,11 +3,8 @@ ghost use Rattle.std.specs.Str.{chars};
 ghost use Rattle.std.specs.List.{starts_with, ends_with};
 ghost use Rattle.expr_spec.specs.Values.{on_text, on_texts, length_value, concat_value, stands_within};
 
-use cell_core::{Cell, Memory, Text};
+use cell_core::{Cell, MAX_TEXT, Memory, Text};
 use std::alloc::Global;
-
-/// The most bytes of a text in a cell.
-const MAX_TEXT: usize = 256;
 
 /// The number of characters (Unicode scalar values).
 pub fn characters(a: &Cell) -> Cell
@@ -26,7 +23,7 @@ fn char_count(text: &str) -> usize
     text.chars().count()
 }
 
-/// Both texts joined, and null where that has more than 256 bytes.
+/// Both texts joined, and null where that has more bytes than a cell's text may have.
 pub fn joined(alloc: Global, a: &Cell, b: &Cell) -> Result<Cell, Memory>
     ensures { IfOk result (λ value. value ≡ on_texts concat_value a.now b.now) }
 {

@@ -1,7 +1,7 @@
-ghost use Rattle.std.specs.Prelude.{◌≡◌, [], ◌∷◌, map, slice_index_or, IfOk, All};
+ghost use Rattle.std.specs.Prelude.{◌≡◌, [], ◌∷◌, map, slice_index_or, IfOk};
 ghost use Rattle.expr_spec.specs.Functions.{function_named};
 ghost use Rattle.expr_spec.specs.TreeViews.{tree_view, arguments_of};
-ghost use Rattle.expr_spec.specs.Values.{IsOnCalendar, column_value, call_value, value_in, values_in};
+ghost use Rattle.expr_spec.specs.Values.{column_value, call_value, value_in, values_in};
 
 use crate::functions::function_value;
 use crate::numbers::whole;
@@ -15,7 +15,6 @@ use std::alloc::Global;
 /// at most some 500 levels, since a chain of `+` leans to the left.
 #[cycle(tree_value)]
 pub fn eval(alloc: Global, tree: &Tree, row: &Row) -> Result<Cell, Memory>
-    requires { All IsOnCalendar row.now }
     ensures { IfOk result (λ value. value ≡ value_in (tree_view tree.now) row.now) }
 {
     match &tree.node {
@@ -39,9 +38,8 @@ pub fn eval(alloc: Global, tree: &Tree, row: &Row) -> Result<Cell, Memory>
 /// The cells that arguments give, in order.
 #[cycle(tree_value)]
 fn values(alloc: Global, arguments: &[Tree], row: &Row) -> Result<Vec<Cell>, Memory>
-    requires { All IsOnCalendar row.now }
-    ensures value { IfOk result (λ cells. cells.items ≡ values_in (arguments_of (map tree_view arguments.now)) row.now) }
-    ensures calendar { IfOk result (λ cells. All IsOnCalendar cells.items) }
+    ensures { IfOk result (λ cells. cells.items
+        ≡ values_in (arguments_of (map tree_view arguments.now)) row.now) }
 {
     let mut cells = Vec::new(alloc);
     for argument in arguments {
@@ -51,7 +49,6 @@ fn values(alloc: Global, arguments: &[Tree], row: &Row) -> Result<Vec<Cell>, Mem
 }
 
 fn call_value(alloc: Global, name: &Text, cells: &[Cell]) -> Result<Cell, Memory>
-    requires { All IsOnCalendar cells.now }
     ensures { IfOk result (λ value. value ≡ call_value (function_named name.now) cells.now) }
 {
     match Function::named(name.as_str()) {

@@ -1,5 +1,6 @@
 -- What stands between quotes is text, also once its escapes are undone.
 use Rattle.std.proofs.Common.{◌≡◌, ℕ, ◌+◌, ◌/◌, ◌%◌, ◌<◌, List, [], ◌∷◌, ◌++◌, Bool, true, false, cond, eqb, ltb, ◌&&◌, refl, sym, ap, ◌∙◌, subst, arith}
+use Rattle.std.proofs.lemmas.Bool.{and_parts}
 use Rattle.std.proofs.lemmas.Bool.Decides.{nat_tests}
 use Rattle.std.proofs.Math.Utf8.{encode, encodes, scalar, scalars}
 use Rattle.std.specs.Str.{IsUtf8}
@@ -105,10 +106,6 @@ plain_chars [] b = plain_none b ∙ ap encodes (sym (plain_none b))
 plain_chars (c ∷ cs) true = (kept_char c).whole (encodes cs) ∙ ap (λ zs. encode c ++ zs) (plain_chars cs false) ∙ ap encodes (sym (escaped c cs))
 plain_chars (c ∷ cs) false = plain_char c cs (eqb c 92) refl (plain_chars cs true) (plain_chars cs false)
 
-both_true : (a b : Bool) → (a && b) ≡ true → (a ≡ true) × (b ≡ true)
-both_true true b e = (refl, e)
-both_true false b e = absurd (cc)
-
 scalars_more : (c : ℕ) (cs : List ℕ) → scalar c ≡ true → scalars cs ≡ true → scalars (c ∷ cs) ≡ true
 scalars_more c cs h k = rw h k
 
@@ -118,8 +115,8 @@ plain_scalar c cs false e s h k = ap scalars (not_escape c cs (no_backslash c e)
 
 plain_scalars : (cs : List ℕ) (b : Bool) → scalars cs ≡ true → scalars (plain b cs) ≡ true
 plain_scalars [] b s = ap scalars (plain_none b)
-plain_scalars (c ∷ cs) true s = let p = both_true (scalar c) (scalars cs) s in ap scalars (escaped c cs) ∙ scalars_more c (plain false cs) p.0 (plain_scalars cs false p.1)
-plain_scalars (c ∷ cs) false s = let p = both_true (scalar c) (scalars cs) s in plain_scalar c cs (eqb c 92) refl p.0 (plain_scalars cs true p.1) (plain_scalars cs false p.1)
+plain_scalars (c ∷ cs) true s = let p = and_parts (scalar c) (scalars cs) s in ap scalars (escaped c cs) ∙ scalars_more c (plain false cs) p.0 (plain_scalars cs false p.1)
+plain_scalars (c ∷ cs) false s = let p = and_parts (scalar c) (scalars cs) s in plain_scalar c cs (eqb c 92) refl p.0 (plain_scalars cs true p.1) (plain_scalars cs false p.1)
 
 pub plain_utf8 : (bs : List ℕ) → IsUtf8 bs → IsUtf8 (plain false bs)
 plain_utf8 bs (cs, (s, e)) = (plain false cs, (plain_scalars cs false s, sym (plain_chars cs false) ∙ ap (plain false) e))

@@ -1,15 +1,17 @@
 ghost use Rattle.std.specs.Prelude.{◌≡◌, ◌<◌, ◌≤◌, ◌+◌, IfOk, IfSome, drop, take, true, false, length, slice_index};
 ghost use Rattle.std.specs.List.{prefix_len};
 ghost use Rattle.std.specs.Char.{is_ascii_digit};
-ghost use Rattle.expr_parse.specs.Tokens.{is_blank, begins_word, goes_on_word, decimal, number_kind, word_kind, closing_quote, plain, quoted, quoted_token, symbol, front_token, lexeme};
+ghost use Rattle.expr_parse.specs.Tokens.{is_blank, begins_word, goes_on_word, decimal, number_kind, word_kind};
+ghost use Rattle.expr_parse.specs.Tokens.{closing_quote, plain, quoted, quoted_token, symbol, front_token, lexeme};
 
 use crate::token::{Kind, Lexeme};
+use cell_core::MAX_INTEGER;
 use plain_data::{Memory, Text};
 use plan_types::BinaryOp;
 use std::alloc::Global;
 
 /// The greatest number, 2^53-1.
-const MAX_NUMBER: u64 = 9_007_199_254_740_991;
+const MAX_NUMBER: u64 = MAX_INTEGER as u64;
 
 /// A space, a tab, a line feed or a carriage return.
 pub fn is_blank(byte: u8) -> bool
@@ -182,7 +184,9 @@ fn number_at(bytes: &[u8]) -> Lexeme
     requires begins { is_ascii_digit (slice_index bytes.now 0) ≡ true }
     ensures some { 1 ≤ result.length }
     ensures within { result.length ≤ length bytes.now }
-    ensures value { result ≡ lexeme (number_kind (take (prefix_len is_ascii_digit bytes.now) bytes.now)) (prefix_len is_ascii_digit bytes.now) }
+    ensures value { result ≡ lexeme
+        (number_kind (take (prefix_len is_ascii_digit bytes.now) bytes.now))
+        (prefix_len is_ascii_digit bytes.now) }
 {
     let length = digits_len(bytes);
     Lexeme {
@@ -195,7 +199,9 @@ fn word_at(alloc: Global, text: &str, at: usize) -> Result<Lexeme, Memory>
     requires within { at < length text.now }
     requires begins { begins_word (slice_index text.now at) ≡ true }
     ensures size { IfOk result (λ l. (1 ≤ l.length) × (at + l.length ≤ length text.now)) }
-    ensures value { IfOk result (λ l. l ≡ lexeme (word_kind (take (prefix_len goes_on_word (drop at text.now)) (drop at text.now))) (prefix_len goes_on_word (drop at text.now))) }
+    ensures value { IfOk result (λ l. l ≡ lexeme
+        (word_kind (take (prefix_len goes_on_word (drop at text.now)) (drop at text.now)))
+        (prefix_len goes_on_word (drop at text.now))) }
 {
     let length = word_len(&text.as_bytes()[at..]);
     let kind = word_kind(alloc, &text[at..at + length])?;

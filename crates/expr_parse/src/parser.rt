@@ -1,6 +1,7 @@
 ghost use Rattle.std.specs.Prelude.{◌≡◌};
 ghost use Rattle.expr_parse.specs.Grammar.{token};
-ghost use Rattle.expr_parse.specs.Machine.{opened, at_operand, at_opening, misplaced_cause, joining, compares, closing_of, at_close, at_comma, after, step, finished, Steps, Ends};
+ghost use Rattle.expr_parse.specs.Machine.{opened, at_operand, at_opening, misplaced_cause, joining, compares};
+ghost use Rattle.expr_parse.specs.Machine.{closing_of, at_close, at_comma, after, step, finished, Steps, Ends};
 ghost use Rattle.expr_parse.specs.Grammar.{joined};
 
 use crate::frame::{COMPARISON, Frame, NEGATION, SUM, Want, close, depth, rank, top_strength};

@@ -27,17 +27,21 @@ pub fn parse(alloc: Global, text: &Text) -> Result<Tree, ParseRefused>
     ensures refuses { IfErr result (λ refusal. IsRefusal text.now refusal) }
     // What the grammar reads is read, and each first fault is answered, unless memory runs out.
     ensures tree { (tree : Tree) → IsRead (tokens text.now) tree → Returns result (Ok tree) }
-    ensures fault { (at : ℕ) (cause : ParseCause) → IsFirstFault (tokens text.now) (length text.now) at cause → Returns result (Err (ParseRefused.Bad at cause)) }
+    ensures fault { (at : ℕ) (cause : ParseCause) → IsFirstFault (tokens text.now) (length text.now) at cause
+        → Returns result (Err (ParseRefused.Bad at cause)) }
 {
     read(alloc, text.as_str())
 }
 
 /// Some tokens, with the place of their end, have one tree or one first fault, and never both.
 pub fn one_answer()
-    ensures some { (ts : List Token) (end : ℕ) → ((x : Tree) × IsRead ts x) ⊎ ((at : ℕ) × (c : ParseCause) × IsFirstFault ts end at c) }
+    ensures some { (ts : List Token) (end : ℕ)
+        → ((x : Tree) × IsRead ts x) ⊎ ((at : ℕ) × (c : ParseCause) × IsFirstFault ts end at c) }
     ensures one_tree { (ts : List Token) (x y : Tree) → IsRead ts x → IsRead ts y → x ≡ y }
-    ensures one_fault { (ts : List Token) (end at place : ℕ) (c d : ParseCause) → IsFirstFault ts end at c → IsFirstFault ts end place d → (at ≡ place) × (c ≡ d) }
-    ensures not_both { (ts : List Token) (end at : ℕ) (c : ParseCause) (x : Tree) → IsRead ts x → IsFirstFault ts end at c → ⊥ }
+    ensures one_fault { (ts : List Token) (end at place : ℕ) (c d : ParseCause) → IsFirstFault ts end at c
+        → IsFirstFault ts end place d → (at ≡ place) × (c ≡ d) }
+    ensures not_both { (ts : List Token) (end at : ℕ) (c : ParseCause) (x : Tree) → IsRead ts x
+        → IsFirstFault ts end at c → ⊥ }
 {}
 
 /// Reads the text once from the left.

@@ -1,5 +1,7 @@
 use plain_data::Memory;
 use std::alloc::AllocError;
+use std::error::Error;
+use std::fmt;
 
 /// Why a text is no expression.
 #[derive(Clone, Copy, Debug, Drop, PartialEq, Eq)]
@@ -20,6 +22,27 @@ pub enum ParseRefused {
     /// Memory was wanted and not given.
     Memory,
 }
+
+impl fmt::Display for ParseCause {
+    fn fmt<W: fmt::Write>(&self, f: &mut fmt::Formatter<W>) -> fmt::Result {
+        f.write_str(match self {
+            ParseCause::Number => "a number above 2^53-1",
+            ParseCause::Nesting => "more than 64 levels of nesting",
+            ParseCause::Syntax => "no expression goes on here",
+        })
+    }
+}
+
+impl fmt::Display for ParseRefused {
+    fn fmt<W: fmt::Write>(&self, f: &mut fmt::Formatter<W>) -> fmt::Result {
+        match self {
+            ParseRefused::Bad { at, cause } => write!(f, "{cause}, at byte {at}"),
+            ParseRefused::Memory => f.write_str("out of memory"),
+        }
+    }
+}
+
+impl Error for ParseRefused {}
 
 impl From<AllocError> for ParseRefused {
     ghost use Rattle.std.specs.Prelude.{◌≡◌};

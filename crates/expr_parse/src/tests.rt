@@ -29,6 +29,11 @@ fn faults_are_the_first_ones(rt: HostRuntime) -> Result<(), Fail> {
         let found = parse(alloc, &Text::from_str(alloc, text)?).err();
         assert_eq!(rt; found, Some(ParseRefused::Bad { at, cause }), "in {text}");
     }
+    let refused = parse(alloc, &Text::from_str(alloc, "1 +")?)
+        .err()
+        .ok_or("a tree")?;
+    let printed = format!(in alloc; "{refused}")?;
+    assert_eq!(rt; printed.as_str(), "no expression goes on here, at byte 3");
     Ok(())
 }
 
@@ -69,15 +74,6 @@ fn nesting_has_a_bound(rt: HostRuntime) -> Result<(), Fail> {
         let cause = ParseCause::Nesting;
         assert_eq!(rt; found, Some(ParseRefused::Bad { at, cause }));
     }
-    Ok(())
-}
-
-#[test]
-fn chains_are_not_nested(rt: HostRuntime) -> Result<(), Fail> {
-    let alloc = rt.alloc();
-    let chain = nested(alloc, "1+", "", 511)?;
-    let tree = parse(alloc, &chain).ok().ok_or("no tree")?;
-    assert_eq!(rt; tree.at, 1021);
     Ok(())
 }
 

@@ -1,6 +1,8 @@
 -- The value of a checked tree is null, or of the tree's type and in range.
 use Rattle.std.proofs.Common.{◌≡◌, ℕ, zero, suc, ◌+◌, ◌-◌, ◌*◌, ◌^◌, ◌<◌, ◌≤◌, List, [], ◌∷◌, ◌++◌, length, Bool, true, false, not, ◌&&◌, ◌||◌, Option, Some, None, Result, Ok, Err, refl, sym, ◌∙◌, ap, subst, arith, All, ℤ, pos, negsuc, neg_ℤ, ◌+ℤ◌, ◌-ℤ◌, ◌*ℤ◌, ◌≤ℤ◌, unsigned_abs, nat_eq, nat_lt}
+use Rattle.std.proofs.lemmas.Bool.{and_from, and_parts}
 use Rattle.std.proofs.lemmas.Int.{ints}
+use Rattle.std.proofs.lemmas.List.Elements.{All-nil, All-cons}
 use Rattle.std.specs.Prelude.{if◌then◌else◌, int_le, int_lt, slice_index_or}
 use Rattle.std.specs.Int.{int_min, int_max, int_rem_euclid}
 use Rattle.std.specs.List.{starts_with, ends_with}
@@ -39,7 +41,6 @@ use Rattle.expr_spec.specs.Typing as t
 use Rattle.expr_spec.specs.Values as v
 use Rattle.expr_spec.specs.Values.{IsOnCalendar}
 use Rattle.row_batch.specs.Changes.{FitsColumns}
-use Rattle.expr_spec.proofs.CalendarLemmas.{both}
 
 abbrev Fits : CellType → Cell → Type 0
 Fits k c = cell_fault k c ≡ None
@@ -52,13 +53,6 @@ int_le-true a b h = grind (arith, ints)
 true-int_le : (a b : ℤ) → int_le a b ≡ true → a ≤ℤ b
 true-int_le a b h = grind (arith, ints)
 
-and-true : (a b : Bool) → a ≡ true → b ≡ true → (a && b) ≡ true
-and-true a b p q = rw (p, q) refl
-
-true-and : (a b : Bool) → (a && b) ≡ true → (a ≡ true) × (b ≡ true)
-true-and true b h = (refl, h)
-true-and false b h = cc
-
 in-range : (b : Bool) (why : RowCause) → b ≡ true → unless_in b why ≡ None
 in-range b why h = rw h refl
 
@@ -67,16 +61,16 @@ range-in true why h = refl
 range-in false why h = cc
 
 day-fits : (d : ℤ) → IsDay d → Fits kind.Date (Date d)
-day-fits d h = in-range (is_day d) cause.Range (and-true _ _ (int_le-true _ _ h.0) (int_le-true _ _ h.1))
+day-fits d h = in-range (is_day d) cause.Range (and_from _ _ (int_le-true _ _ h.0) (int_le-true _ _ h.1))
 
 fits-day : (d : ℤ) → Fits kind.Date (Date d) → IsDay d
-fits-day d h = let both = true-and _ _ (range-in (is_day d) cause.Range h) in (true-int_le _ _ both.0, true-int_le _ _ both.1)
+fits-day d h = let both = and_parts _ _ (range-in (is_day d) cause.Range h) in (true-int_le _ _ both.0, true-int_le _ _ both.1)
 
 moment-fits : (m : ℤ) → IsMoment m → Fits kind.Moment (Moment m)
-moment-fits m h = in-range (is_moment m) cause.Range (and-true _ _ (int_le-true _ _ h.0) (int_le-true _ _ h.1))
+moment-fits m h = in-range (is_moment m) cause.Range (and_from _ _ (int_le-true _ _ h.0) (int_le-true _ _ h.1))
 
 fits-moment : (m : ℤ) → Fits kind.Moment (Moment m) → IsMoment m
-fits-moment m h = let both = true-and _ _ (range-in (is_moment m) cause.Range h) in (true-int_le _ _ both.0, true-int_le _ _ both.1)
+fits-moment m h = let both = and_parts _ _ (range-in (is_moment m) cause.Range h) in (true-int_le _ _ both.0, true-int_le _ _ both.1)
 
 nat_lt-true : (a b : ℕ) → a < b → nat_lt a b ≡ true
 nat_lt-true a b h = grind arith
@@ -329,7 +323,7 @@ two_arguments f want gives (k ∷ l ∷ []) out [] h e fit = absurd fit
 two_arguments f want gives (k ∷ l ∷ []) out (a ∷ []) h e fit = absurd fit.1
 two_arguments f want gives (k ∷ l ∷ []) out (a ∷ b ∷ []) h e fit =
     let is = if-some (t.same_kind k want && t.same_kind l want) gives out e in
-    let both = true-and (t.same_kind k want) (t.same_kind l want) is.0 in
+    let both = and_parts (t.same_kind k want) (t.same_kind l want) is.0 in
     along gives out _ is.1 (h a b (along k want a (same-kind k want both.0) fit.0) (along l want b (same-kind l want both.1) fit.1.0))
 two_arguments f want gives (k ∷ l ∷ []) out (a ∷ b ∷ c ∷ more) h e fit = absurd fit.1.1
 two_arguments f want gives (k ∷ l ∷ m ∷ ks) out cells h e fit = cc
@@ -492,7 +486,7 @@ on-calendar k (Moment m) h = cc
 on-calendar k c h = tt
 
 pub fitting_row : (columns : List Column) (row : List Cell) → FitsColumns columns row → All IsOnCalendar row
-fitting_row [] [] fit = λ i d lt. absurd (omega arith)
+fitting_row [] [] fit = All-nil IsOnCalendar
 fitting_row [] (x ∷ row) fit = absurd fit
 fitting_row (c ∷ columns) [] fit = absurd fit
-fitting_row (c ∷ columns) (x ∷ row) fit = both x row (on-calendar c.kind x fit.0) (fitting_row columns row fit.1)
+fitting_row (c ∷ columns) (x ∷ row) fit = All-cons IsOnCalendar x row (on-calendar c.kind x fit.0) (fitting_row columns row fit.1)

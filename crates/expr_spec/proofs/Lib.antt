@@ -1,5 +1,5 @@
-pub mod CalendarLemmas
 pub mod FitLemmas
 pub mod NumberedLemmas
 pub mod RoundingLemmas
+pub mod TextLemmas
 pub mod Truths

@@ -1,6 +1,7 @@
 -- The type of an expression tree against a schema's columns, or the tree's first fault.
 use Rattle.std.specs.Prelude.{◌≡◌, ℕ, pos, int_le, nat_lt, List, [], ◌∷◌, length, Bool, true, false, ◌&&◌, Option, Some, None, is_some, option_and_then, Result, Ok, Err, position, if◌then◌else◌}
 use Rattle.std.specs.Str.{bytes_eq}
+use Rattle.cell_core.specs.Limits.{max_text}
 use Rattle.cell_core.specs.declared.cell.CellType.{CellType}
 use Rattle.cell_core.specs.declared.cell.CellType.TheVariants.{Integer, Boolean, Date, Moment, Words}
 use Rattle.cell_core.specs.declared.schema.Column.{Column}
@@ -79,9 +80,9 @@ binary_kind op.Times a b = of_two Integer Integer a b
 binary_kind op.Quotient a b = of_two Integer Integer a b
 binary_kind op.Rest a b = of_two Integer Integer a b
 
--- a text has at most 256 bytes
+-- a text is one that a cell may have
 abbrev pub words_kind : List ℕ → Option CellType
-words_kind s = if nat_lt 256 (length s) then None else Some Words
+words_kind s = if nat_lt max_text (length s) then None else Some Words
 
 -- ---- the type of a call, by the types of its arguments
 

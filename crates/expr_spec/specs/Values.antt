@@ -11,12 +11,12 @@ use Rattle.cal_units.specs.Calendar.{IsDay, IsMoment, year_of, month_of, day_of_
 use Rattle.cal_units.specs.declared.buckets.Unit.{Unit as TimeUnit}
 use Rattle.cell_core.specs.declared.cell.Cell.{Cell}
 use Rattle.cell_core.specs.declared.cell.Cell.TheVariants.{Null, Bool as Truth, Int, Date, Moment, Words}
-use Rattle.cell_core.specs.Cells.{cell_order}
+use Rattle.cell_core.specs.Cells.{cell_order, is_null}
+use Rattle.cell_core.specs.Limits.{is_integer, max_text}
 use Rattle.plan_types.specs.declared.tree.UnaryOp.{UnaryOp}
 use Rattle.plan_types.specs.declared.tree.UnaryOp.TheVariants as sign
 use Rattle.plan_types.specs.declared.tree.BinaryOp.{BinaryOp}
 use Rattle.plan_types.specs.declared.tree.BinaryOp.TheVariants as op
-use Rattle.row_batch.specs.Checks.{is_integer, is_null}
 use Rattle.expr_spec.specs.declared.function.Function.{Function}
 use Rattle.expr_spec.specs.declared.function.Function.TheVariants as function
 use Rattle.expr_spec.specs.Functions.{function_named, unit_named, date_unit}
@@ -126,9 +126,9 @@ if_value other a b = b
 abbrev pub length_value : List ℕ → Cell
 length_value s = Int (pos (length (chars s)))
 
--- joined; null above 256 bytes
+-- joined; null where a cell may not have so many bytes
 abbrev pub concat_value : List ℕ → List ℕ → Cell
-concat_value s t = if nat_lt 256 (length (s ++ t)) then Null else Words (s ++ t)
+concat_value s t = if nat_lt max_text (length (s ++ t)) then Null else Words (s ++ t)
 
 -- t stands somewhere within s
 abbrev pub stands_within : List ℕ → List ℕ → Bool

@@ -1,3 +1,6 @@
+use std::error::Error;
+use std::fmt;
+
 /// Why an expression has no type.
 #[derive(Clone, Copy, Debug, Drop, PartialEq, Eq)]
 pub enum TreeCause {
@@ -17,3 +20,21 @@ pub struct TreeRefused {
     pub at: usize,
     pub cause: TreeCause,
 }
+
+impl fmt::Display for TreeCause {
+    fn fmt<W: fmt::Write>(&self, f: &mut fmt::Formatter<W>) -> fmt::Result {
+        f.write_str(match self {
+            TreeCause::Unknown => "no column or function of that name",
+            TreeCause::BadType => "arguments of another type or number",
+            TreeCause::Unit => "no unit that fits the first argument",
+        })
+    }
+}
+
+impl fmt::Display for TreeRefused {
+    fn fmt<W: fmt::Write>(&self, f: &mut fmt::Formatter<W>) -> fmt::Result {
+        write!(f, "{}, at byte {}", self.cause, self.at)
+    }
+}
+
+impl Error for TreeRefused {}

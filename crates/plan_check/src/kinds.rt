@@ -1,5 +1,6 @@
 ghost use Rattle.std.specs.Prelude.{◌≡◌, Some, None};
-ghost use Rattle.expr_spec.specs.Typing.{same_kind, of_one, of_two, compared_kind, unary_kind, binary_kind, takes_one, takes_two, takes_any, if_kind, bucket_kind, call_kind};
+ghost use Rattle.expr_spec.specs.Typing.{same_kind, of_one, of_two, compared_kind, unary_kind, binary_kind};
+ghost use Rattle.expr_spec.specs.Typing.{takes_one, takes_two, takes_any, if_kind, bucket_kind, call_kind};
 ghost use Rattle.plan_check.specs.Kinds.{list_of, with_kind};
 
 use cell_core::CellType;

@@ -14,4 +14,3 @@ mod typing;
 
 pub use check::check_tree;
 pub use expr_spec::{TreeCause, TreeRefused};
-pub use typing::tree_kind;

@@ -24,14 +24,16 @@ pub fn number(schema: &Schema, tree: &mut Tree)
 
 #[cycle(numbering)]
 fn number_all(schema: &Schema, trees: &mut Trees)
-    ensures { arguments_of (map tree_view trees.new) ≡ numbered_all schema.now.columns (arguments_of (map tree_view trees.old)) }
+    ensures { arguments_of (map tree_view trees.new)
+        ≡ numbered_all schema.now.columns (arguments_of (map tree_view trees.old)) }
 {
     number_each(schema, trees.as_mut_slice());
 }
 
 #[cycle(numbering)]
 fn number_each(schema: &Schema, trees: &mut [Tree])
-    ensures { arguments_of (map tree_view trees.new) ≡ numbered_all schema.now.columns (arguments_of (map tree_view trees.old)) }
+    ensures { arguments_of (map tree_view trees.new)
+        ≡ numbered_all schema.now.columns (arguments_of (map tree_view trees.old)) }
 {
     for i in 0..trees.len() {
         number(schema, &mut trees[i]);

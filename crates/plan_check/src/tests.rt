@@ -70,29 +70,15 @@ fn refused(at: usize, cause: TreeCause) -> Result<CellType, TreeRefused> {
 }
 
 #[test]
-fn a_sum_of_a_number_and_a_text(rt: HostRuntime) -> Result<(), Fail> {
+fn the_first_fault_counts(rt: HostRuntime) -> Result<(), Fail> {
     let alloc = rt.alloc();
-    let text = words(alloc, 6, "a")?;
-    let sum = plus(alloc, 4, column(alloc, 0, "v")?, text)?;
-    assert_eq!(rt; checked(alloc, sum)?, refused(4, TreeCause::BadType));
-    Ok(())
-}
-
-#[test]
-fn the_left_fault_comes_first(rt: HostRuntime) -> Result<(), Fail> {
-    let alloc = rt.alloc();
-    let right = column(alloc, 6, "x")?;
-    let sum = plus(alloc, 4, column(alloc, 0, "w")?, right)?;
-    assert_eq!(rt; checked(alloc, sum)?, refused(0, TreeCause::Unknown));
-    Ok(())
-}
-
-#[test]
-fn an_argument_comes_before_its_call(rt: HostRuntime) -> Result<(), Fail> {
-    let alloc = rt.alloc();
-    let inner = call_one(alloc, "nope", column(alloc, 5, "x")?)?;
-    assert_eq!(rt; checked(alloc, inner)?, refused(5, TreeCause::Unknown));
+    let mixed = plus(alloc, 4, column(alloc, 0, "v")?, words(alloc, 6, "a")?)?;
+    let both = plus(alloc, 4, column(alloc, 0, "w")?, column(alloc, 6, "x")?)?;
+    let argument = call_one(alloc, "nope", column(alloc, 5, "x")?)?;
     let name = call_one(alloc, "nope", number(5))?;
+    assert_eq!(rt; checked(alloc, mixed)?, refused(4, TreeCause::BadType));
+    assert_eq!(rt; checked(alloc, both)?, refused(0, TreeCause::Unknown));
+    assert_eq!(rt; checked(alloc, argument)?, refused(5, TreeCause::Unknown));
     assert_eq!(rt; checked(alloc, name)?, refused(0, TreeCause::Unknown));
     Ok(())
 }
@@ -103,7 +89,6 @@ fn buckets_want_a_unit(rt: HostRuntime) -> Result<(), Fail> {
     let unit = refused(0, TreeCause::Unit);
     let cases = [
         ("d", "M", Ok(CellType::Date)),
-        ("d", "W", Ok(CellType::Date)),
         ("d", "m", unit),
         ("d", "MM", unit),
         ("v", "M", unit),
@@ -113,16 +98,10 @@ fn buckets_want_a_unit(rt: HostRuntime) -> Result<(), Fail> {
         let kind = checked(alloc, bucket(alloc, column, unit)?)?;
         assert_eq!(rt; kind, want, "{column} {unit}");
     }
-    Ok(())
-}
-
-#[test]
-fn a_bucket_of_minus_one(rt: HostRuntime) -> Result<(), Fail> {
-    let alloc = rt.alloc();
     let one = Boxed::new(alloc, number(13))?;
-    let step = tree(12, TreeNode::Unary(UnaryOp::Minus, one));
-    let below = call_two(alloc, "bucket", number(7), step)?;
-    assert_eq!(rt; checked(alloc, below)?, refused(0, TreeCause::Unit));
+    let minus_one = tree(12, TreeNode::Unary(UnaryOp::Minus, one));
+    let below = call_two(alloc, "bucket", number(7), minus_one)?;
+    assert_eq!(rt; checked(alloc, below)?, unit);
     Ok(())
 }
 

@@ -1,16 +1,14 @@
 ghost use Rattle.std.specs.Prelude.{◌≡◌, map};
 ghost use Rattle.expr_spec.specs.TreeViews.{tree_view, arguments_of};
-ghost use Rattle.expr_spec.specs.Typing.{or_fault, column_kind, words_kind, is_unit, unit_kind, named_kind, kind_of, kinds_of};
+ghost use Rattle.expr_spec.specs.Typing.{or_fault, column_kind, words_kind, is_unit, unit_kind, named_kind, kind_of};
+ghost use Rattle.expr_spec.specs.Typing.{kinds_of};
 ghost use Rattle.plan_check.specs.declared.kinds.Kinds.TheVariants as types;
 ghost use Rattle.plan_check.specs.Kinds.{list_of, found_after};
 
 use crate::kinds::{Kinds, binary_kind, call_kind, unary_kind};
-use cell_core::{CellType, Schema, Text};
+use cell_core::{CellType, MAX_TEXT, Schema, Text};
 use expr_spec::{Function, TreeCause, TreeRefused, date_unit_named, unit_named};
 use plan_types::{Tree, TreeNode};
-
-/// The most bytes of a text literal.
-const MAX_TEXT: usize = 256;
 
 /// The type of a tree against a schema's columns, or its first fault: arguments come from the left, and
 /// then the node. It goes as deep as the tree; an expression of 1,024 bytes has at most some 500 levels,
@@ -45,7 +43,8 @@ pub fn tree_kind(schema: &Schema, tree: &Tree) -> Result<CellType, TreeRefused>
 /// The types of arguments, or their first fault.
 #[cycle(typing)]
 fn argument_kinds(schema: &Schema, arguments: &[Tree]) -> Result<Kinds, TreeRefused>
-    ensures { result ≡ found_after types.Zero (kinds_of schema.now.columns (arguments_of (map tree_view arguments.now))) }
+    ensures { result
+        ≡ found_after types.Zero (kinds_of schema.now.columns (arguments_of (map tree_view arguments.now))) }
 {
     let mut kinds = Kinds::Zero;
     for argument in arguments {

@@ -56,6 +56,7 @@ impl AggName {
         }
     }
 
+    /// The name, as plans write it.
     pub fn name(self) -> &'static str
         ensures { result.now ≡ aggregate_name self }
     {

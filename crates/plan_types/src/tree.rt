@@ -1,4 +1,7 @@
-use plain_data::Text;
+ghost use Rattle.std.specs.Prelude.{◌≡◌, IfOk};
+
+use plain_data::{Copies, Memory, Text};
+use std::alloc::Global;
 use tree_items::{Boxed, Items};
 
 /// An operator before one operand.
@@ -52,3 +55,58 @@ pub enum TreeNode {
 }
 
 pub type Trees = Items<Tree>;
+
+impl Tree {
+    /// An equal tree. It goes as deep as the tree.
+    #[cycle(tree_copy)]
+    pub fn copy(&self, alloc: Global) -> Result<Tree, Memory>
+        ensures { IfOk result (λ copy. copy ≡ self.now) }
+    {
+        let node = self.node.copy(alloc)?;
+        Ok(Tree { at: self.at, node })
+    }
+}
+
+impl TreeNode {
+    /// An equal node, with the trees that it has.
+    #[cycle(tree_copy)]
+    pub fn copy(&self, alloc: Global) -> Result<TreeNode, Memory>
+        ensures { IfOk result (λ copy. copy ≡ self.now) }
+    {
+        match self {
+            TreeNode::Column(name, number) => Ok(TreeNode::Column(name.copies(alloc)?, *number)),
+            TreeNode::Number(number) => Ok(TreeNode::Number(*number)),
+            TreeNode::Truth(truth) => Ok(TreeNode::Truth(*truth)),
+            TreeNode::Words(text) => Ok(TreeNode::Words(text.copies(alloc)?)),
+            TreeNode::Unary(op, a) => Ok(TreeNode::Unary(*op, boxed_copy(alloc, a)?)),
+            TreeNode::Binary(op, a, b) => Ok(TreeNode::Binary(
+                *op,
+                boxed_copy(alloc, a)?,
+                boxed_copy(alloc, b)?,
+            )),
+            TreeNode::Call(name, arguments) => {
+                let arguments = copies_of(alloc, arguments)?;
+                Ok(TreeNode::Call(name.copies(alloc)?, arguments))
+            }
+        }
+    }
+}
+
+#[cycle(tree_copy)]
+fn boxed_copy(alloc: Global, tree: &Boxed<Tree>) -> Result<Boxed<Tree>, Memory>
+    ensures { IfOk result (λ copy. copy ≡ tree.now) }
+{
+    let copy = tree.get().copy(alloc)?;
+    Ok(Boxed::new(alloc, copy)?)
+}
+
+#[cycle(tree_copy)]
+fn copies_of(alloc: Global, trees: &Trees) -> Result<Trees, Memory>
+    ensures { IfOk result (λ copies. copies ≡ trees.now) }
+{
+    let mut copies = Items::new(alloc);
+    for tree in trees.as_slice() {
+        copies.push(tree.copy(alloc)?)?;
+    }
+    Ok(copies)
+}

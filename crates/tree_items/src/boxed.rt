@@ -22,6 +22,7 @@ impl<T> Model for Boxed<T> {
 }
 
 impl<T> Boxed<T> {
+    /// The value.
     pub fn get(&self) -> &T
         ensures { result.now ≡ self.now }
     {
@@ -35,16 +36,10 @@ impl<T> Boxed<T> {
     {
         &mut self.inner
     }
-
-    pub fn into_inner(self) -> T
-        ensures { result ≡ self }
-    {
-        let Boxed { inner } = self;
-        Box::into_inner(inner)
-    }
 }
 
 impl<T: Drop> Boxed<T> {
+    /// A box of its own for the value. After want of memory the value is gone.
     pub fn new(alloc: Global, value: T) -> Result<Boxed<T>, AllocError>
         ensures { IfOk result (λ b. b ≡ value) }
     {

@@ -1,5 +1,4 @@
-ghost use Rattle.std.specs.Prelude.{◌≡◌, [], ◌∷◌, ◌++◌, ◌<◌, length, slice_get, slice_set, remove, ◌↔◌, IsTrue, IfOk, MatchOption, OnOk, OnErr, OnSome};
-ghost use Rattle.std.specs.Option.{option_copied};
+ghost use Rattle.std.specs.Prelude.{◌≡◌, [], ◌∷◌, ◌++◌, OnOk, OnErr};
 ghost use Rattle.std.specs.Borrow.{Array, Lends, sem};
 ghost use Rattle.tree_items.specs.Over.{over};
 ghost use Rattle.tree_items.specs.contracts.items.Items.{the_row};
@@ -25,6 +24,7 @@ impl<T> Model for Items<T> {
 }
 
 impl<T> Items<T> {
+    /// No items. It takes no memory.
     pub fn new(alloc: Global) -> Items<T>
         ensures { result ≡ [] }
     {
@@ -33,29 +33,11 @@ impl<T> Items<T> {
         }
     }
 
-    pub fn from_vec(items: Vec<T>) -> Items<T>
-        ensures { result ≡ items.items }
-    {
-        Items { items }
-    }
-
+    /// The items, in order.
     pub fn as_slice(&self) -> &[T]
         ensures { result.now ≡ self.now }
     {
         self.items.as_slice()
-    }
-
-    pub fn len(&self) -> usize
-        ensures { result ≡ length self.now }
-    {
-        self.items.len()
-    }
-
-    pub fn get(&self, at: usize) -> Option<&T>
-        ensures value { option_copied result ≡ slice_get self.now at }
-        ensures within { OnSome result (at < length self.now) }
-    {
-        self.items.get(at)
     }
 
     /// The items, to be changed in place.
@@ -65,55 +47,10 @@ impl<T> Items<T> {
     {
         self.items.as_mut_slice()
     }
-
-    /// Moves the items of `more` to the end.
-    pub fn append(&mut self, more: Items<T>) -> Result<(), AllocError>
-    where
-        T: Drop,
-        ensures { OnOk result (self.new ≡ self.old ++ more) }
-    {
-        let Items { mut items } = more;
-        self.items.append(&mut items)
-    }
-
-    pub fn pop(&mut self) -> Option<T>
-        ensures { MatchOption result ((self.old ≡ []) × (self.new ≡ [])) (λ last. self.old ≡ self.new ++ last ∷ []) }
-    {
-        self.items.pop()
-    }
-
-    pub fn is_empty(&self) -> bool
-        ensures { IsTrue result ↔ (self.now ≡ []) }
-    {
-        self.items.is_empty()
-    }
-}
-
-impl<T: Copy> Items<T> {
-    pub fn from_slice(alloc: Global, items: &[T]) -> Result<Items<T>, AllocError>
-        ensures { IfOk result (λ it. it ≡ items.now) }
-    {
-        let items = Vec::from_slice(alloc, items)?;
-        Ok(Items { items })
-    }
 }
 
 impl<T: Drop> Items<T> {
-    pub fn remove(&mut self, at: usize) -> T
-        requires { at < length self.old }
-        ensures item { slice_get self.old at ≡ Some result }
-        ensures rest { self.new ≡ remove self.old at }
-    {
-        self.items.remove(at)
-    }
-
-    pub fn set(&mut self, at: usize, item: T)
-        requires { at < length self.old }
-        ensures { self.new ≡ slice_set self.old at item }
-    {
-        self.items[at] = item;
-    }
-
+    /// Puts `item` at the end. After want of memory all is as before, and the item is gone.
     pub fn push(&mut self, item: T) -> Result<(), AllocError>
         ensures ok { OnOk result (self.new ≡ self.old ++ item ∷ []) }
         ensures err { OnErr result (self.new ≡ self.old) }

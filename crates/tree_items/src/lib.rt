@@ -1,7 +1,8 @@
-//! A `Box` and a `Vec` that contracts see as what they hold, so that a tree of them is plain data, and
-//! whose contents can be changed in place.
+//! A `Box` and a `Vec` for types that lead back to themselves.
 //!
-//! They have the names and the contracts of `sqlite_items`, and besides these a `get_mut`.
+//! It stands on the standard library alone. Its callers may rely on this: contracts see a `Boxed` as its value and an
+//! `Items` as the list of its elements, so that a tree made of them is plain data in a clause, and two of them are
+//! equal exactly where they hold the same; what is lent for change by `get_mut` or `as_mut_slice` is written back.
 #![tactic(auto)]
 
 mod boxed;

@@ -1,5 +1,5 @@
 use Rattle.std.proofs.lemmas.Str.Pattern.{contains_text}
-use Rattle.expr_eval.proofs.TextLemmas.{stands_within-subslice}
+use Rattle.expr_spec.proofs.TextLemmas.{stands_within-subslice}
 use Rattle.expr_eval.proofs.texts.stands_within.Goals as goal
 
 pub returns : goal.returns

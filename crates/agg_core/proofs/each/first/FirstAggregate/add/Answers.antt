@@ -1,7 +1,0 @@
-use Rattle.plan_types.specs.declared.aggregate.AggName.TheVariants as name
-use Rattle.std.proofs.lemmas.Result.{on_ok_weaker}
-use Rattle.agg_core.proofs.KeyedRows.{AreRowsOf-with_pair}
-use Rattle.agg_core.proofs.each.first.FirstAggregate.add.Goals as goal
-
-pub returns-clause-ok : goal.returns-clause-ok
-returns-clause-ok c = on_ok_weaker c.add.result (AreRowsOf-with_pair name.First _ _ _ _) c.add.ensures.ok
