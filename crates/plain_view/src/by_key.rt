@@ -120,7 +120,7 @@ fn rows_between(alloc: Global, rows: &[ShownRow], from: u64, to: u64) -> Result<
     ensures { IfOk result (λ copies. copies ≡ take (to - from) (drop from rows.now)) }
 {
     let part = rows_at(rows, from, to);
-    let mut copies = Vec::new(alloc);
+    let mut copies = Vec::with_capacity(alloc, part.len())?;
     for row in part {
         copies.push(row.copies(alloc)?)?;
     }

@@ -10,7 +10,7 @@ use view_types::{Header, HeaderColumn, ShownCells, ShownType};
 pub(crate) fn header_of(alloc: Global, columns: &[Column]) -> Result<Header, Memory>
     ensures { IfOk result (λ header. header ≡ map header_column columns.now) }
 {
-    let mut header = Vec::new(alloc);
+    let mut header = Vec::with_capacity(alloc, columns.len())?;
     for column in columns {
         let text = column.name.copies(alloc)?;
         let kind = ShownType::of(column.kind);
@@ -27,7 +27,8 @@ pub(crate) fn shown_cells(
 ) -> Result<ShownCells, Memory>
     ensures { IfOk result (λ cells. cells ≡ cells_of columns.now row.now) }
 {
-    let mut cells = ShownCells::new(alloc);
+    let count = row.iter().filter(|cell| **cell != Cell::Null).count();
+    let mut cells = ShownCells::with_capacity(alloc, count)?;
     for (column, cell) in columns.iter().zip(row) {
         put_value(alloc, &mut cells, column, cell)?;
     }

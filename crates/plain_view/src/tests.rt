@@ -97,7 +97,7 @@ fn shown_by<L: Ledger>(alloc: Global, table: &Table, blank: Blank) -> Result<Sho
     requires parts { blank.parts ≡ L.parts }
     requires some { 0 < L.parts }
 {
-    let mut steps = Steps::<L>::make(blank);
+    let mut steps = Steps::<L>::new(blank);
     Ok(show(alloc, table, &mut steps)?)
 }
 

@@ -69,13 +69,13 @@ all_map : {T : Type 0} (P Q : T → Type 0) → ((x : T) → P x → Q x) → (x
 all_map P Q f [] all = tt
 all_map P Q f (x ∷ xs) all = (f x all.0, all_map P Q f xs all.1)
 
-all_insert : {T : Type 0} (P : T → Type 0) (xs : List T) (i : ℕ) (x : T) → AllByRecursion P xs → P x → AllByRecursion P (insert xs i x)
+pub all_insert : {T : Type 0} (P : T → Type 0) (xs : List T) (i : ℕ) (x : T) → AllByRecursion P xs → P x → AllByRecursion P (insert xs i x)
 all_insert P [] zero x all p = (p, tt)
 all_insert P [] (suc i) x all p = (p, tt)
 all_insert P (y ∷ ys) zero x all p = (p, all)
 all_insert P (y ∷ ys) (suc i) x all p = (all.0, all_insert P ys i x all.1 p)
 
-all_remove : {T : Type 0} (P : T → Type 0) (xs : List T) (i : ℕ) → AllByRecursion P xs → AllByRecursion P (remove xs i)
+pub all_remove : {T : Type 0} (P : T → Type 0) (xs : List T) (i : ℕ) → AllByRecursion P xs → AllByRecursion P (remove xs i)
 all_remove P [] zero all = tt
 all_remove P [] (suc i) all = tt
 all_remove P (y ∷ ys) zero all = all.1

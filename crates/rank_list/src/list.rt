@@ -11,9 +11,6 @@ use std::marker::Model;
 use std::mem;
 
 /// A list of items that all differ, in ascending order, which contracts see as that list. Positions count from 0.
-///
-/// Each call but `len`, `is_empty` and `height` walks a balanced tree, so that its cost is at most proportional to
-/// the height, and with it to the logarithm of the length.
 #[derive(Drop)]
 pub struct RankList<T: Placed> {
     tree: Tree<T>,
@@ -46,6 +43,7 @@ impl<T: Placed> RankList<T> {
         })
     }
 
+    /// How many items there are.
     pub fn len(&self) -> usize
         ensures value { result ≡ length self.now }
         ensures ascending { IsStrictlySortedBy T.order self.now }
@@ -53,6 +51,7 @@ impl<T: Placed> RankList<T> {
         self.tree.len()
     }
 
+    /// Whether there is no item.
     pub fn is_empty(&self) -> bool
         ensures { IsTrue result ↔ (self.now ≡ []) }
     {

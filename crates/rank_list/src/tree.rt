@@ -1,6 +1,7 @@
 //! A height-balanced binary tree (an AVL tree) with counts, which knows positions and, but for one walk, no order.
 //! Contracts see a tree as its items in order, and its height.
-ghost use Rattle.std.specs.Prelude.{◌≡◌, ◌+◌, ◌^◌, ◌<◌, ◌≤◌, max, [], ◌∷◌, ◌++◌, length, slice_get, insert, remove, MatchOption, IfOk, IfErr, Some};
+ghost use Rattle.std.specs.Prelude.{◌≡◌, ◌+◌, ◌-◌, ◌^◌, ◌<◌, ◌≤◌, max, [], ◌∷◌, ◌++◌, length, map, take, drop, slice_get, insert, remove, MatchOption, IfOk, IfErr, OnOk, Some};
+ghost use Rattle.std.specs.Map.{keys_of};
 ghost use Rattle.std.specs.Option.{option_copied};
 ghost use Rattle.std.specs.List.Sorted.{IsStrictlySortedBy};
 ghost use Rattle.rank_list.specs.Parts.{ArePartsOf};
@@ -8,6 +9,7 @@ ghost use Rattle.rank_list.specs.Place.{place_in};
 ghost use Rattle.rank_list.specs.Shape.{IsHeightFor, DifferByAtMost, IsHeightAfterRotation};
 
 use crate::placed::Placed;
+use plain_data::Memory;
 use std::alloc::Global;
 use std::marker::Model;
 use std::mem;
@@ -130,6 +132,48 @@ impl<T> Tree<T> {
         }
         Some(&fork.item)
     }
+
+    /// Puts the items at positions from `from` up to and without `to` behind those that `found` has. What stands
+    /// outside is passed by, so that the walk goes down along both ends and visits what lies between.
+    pub(crate) fn collect<'t>(
+        &'t self,
+        from: usize,
+        to: usize,
+        found: &mut Vec<&'t T>,
+    ) -> Result<(), Memory>
+        ensures { OnOk result (map (λ x. x.now) found.new.items ≡ map (λ x. x.now) found.old.items ++ take (to - from) (drop from self.now.0)) }
+    {
+        let Some(fork) = &self.root else {
+            return Ok(());
+        };
+        if from >= to {
+            return Ok(());
+        }
+        let before = fork.left.len();
+        fork.left.collect(from, to.min(before), found)?;
+        put_within(&fork.item, before, from, to, found)?;
+        let past = before + 1;
+        let (from, to) = (from.saturating_sub(past), to.saturating_sub(past));
+        fork.right.collect(from, to, found)?;
+        Ok(())
+    }
+}
+
+/// Puts the item at position `at` behind those that `found` has, where the position is from `from` up to and
+/// without `to`.
+fn put_within<'t, T>(
+    item: &'t T,
+    at: usize,
+    from: usize,
+    to: usize,
+    found: &mut Vec<&'t T>,
+) -> Result<(), Memory>
+    ensures { OnOk result (map (λ x. x.now) found.new.items ≡ map (λ x. x.now) found.old.items ++ take (to - at - (from - at)) (drop (from - at) (item.now ∷ []))) }
+{
+    if from <= at && at < to {
+        found.push(item)?;
+    }
+    Ok(())
 }
 
 impl<T: Placed> Tree<T> {
@@ -146,6 +190,23 @@ impl<T: Placed> Tree<T> {
             return fork.left.len() + 1 + fork.right.place(item);
         }
         fork.left.place(item)
+    }
+}
+
+impl<P: Placed, V> Tree<(P, V)> {
+    /// How many entries stand at places before `place`, found in one walk down, with one comparison at each level.
+    #[tactic(auto, using(crate::proofs::Entries::keyed_descent))]
+    pub(crate) fn entry_place(&self, place: &P) -> usize
+        requires { IsStrictlySortedBy P.order (keys_of self.now.0) }
+        ensures { result ≡ place_in P.order (keys_of self.now.0) place.now }
+    {
+        let Some(fork) = &self.root else {
+            return 0;
+        };
+        if fork.item.0.before(place) {
+            return fork.left.len() + 1 + fork.right.entry_place(place);
+        }
+        fork.left.entry_place(place)
     }
 }
 

@@ -1,3 +1,4 @@
 pub mod KeyOrder
 pub mod MapCopies
+pub mod PutCells
 pub mod SameRows

@@ -1,7 +1,6 @@
-ghost use Rattle.std.specs.Prelude.{◌≡◌, ◌&&◌, [], length, OnOk, OnErr};
-ghost use Rattle.std.specs.BTreeMap.{insert_entry};
+ghost use Rattle.std.specs.Prelude.{◌≡◌, ◌&&◌, [], length, IfOk, OnOk, OnErr};
 ghost use Rattle.std.specs.Cmp.Lexicographic.{slice_cmp};
-ghost use Rattle.std.specs.List.Sorted.{IsStrictlySortedBy};
+ghost use Rattle.std.specs.List.Sorted.{IsBinarySearchResult, IsSearchInRange, IsStrictlySortedBy};
 ghost use Rattle.std.specs.Map.{keys_of};
 ghost use Rattle.std.specs.Ordering.{nat_cmp};
 ghost use Rattle.view_types.specs.Cells.{put_cell};
@@ -11,7 +10,6 @@ ghost use Rattle.view_types.specs.Types.{shown_type_name};
 use crate::key::ViewKey;
 use cell_core::{CellType, Copies, Listed, Memory, Text, Value};
 use std::alloc::Global;
-use std::collections::BTreeMap;
 use std::marker::Model;
 
 /// The type of a shown column: a column's type, or the type of a mean.
@@ -35,27 +33,45 @@ pub struct HeaderColumn {
 pub type Header = Listed<HeaderColumn>;
 
 /// The values of a shown row, each under its column's text. Null values are left out.
+///
+/// They stand in one list, ascending by text, and no text stands twice.
 #[derive(Debug, Drop)]
 pub struct ShownCells {
-    entries: BTreeMap<Text, Value>,
+    cells: Vec<(Text, Value)>,
 }
 
 impl Model for ShownCells {
     ghost use Rattle.std.specs.Prelude.{List, ℕ};
+    ghost use Rattle.std.specs.Cmp.Lexicographic.{slice_cmp};
+    ghost use Rattle.std.specs.List.Sorted.{IsStrictlySortedBy};
+    ghost use Rattle.std.specs.Map.{keys_of};
+    ghost use Rattle.std.specs.Ordering.{nat_cmp};
     ghost use Rattle.value_core.specs.declared.value.Value.{Value as ShownValue};
 
     ghost Value = { List (List ℕ × ShownValue) };
 
-    ghost view = { λ c. c.entries.entries };
+    ghost view = { λ c. c.cells.items };
+
+    ghost invariant = { λ c. IsStrictlySortedBy (slice_cmp nat_cmp) (keys_of c.cells.items) };
 }
 
 impl ShownCells {
+    /// No values. It takes no memory.
     pub fn new(alloc: Global) -> ShownCells
         ensures { result ≡ [] }
     {
         ShownCells {
-            entries: BTreeMap::new(alloc),
+            cells: Vec::new(alloc),
         }
+    }
+
+    /// No values, with room for as many as `count`. Want of memory is the only refusal.
+    pub fn with_capacity(alloc: Global, count: usize) -> Result<ShownCells, Memory>
+        ensures { IfOk result (λ cells. cells ≡ []) }
+    {
+        Ok(ShownCells {
+            cells: Vec::with_capacity(alloc, count)?,
+        })
     }
 
     /// Puts the value under a column's text, in place of the one there.
@@ -63,23 +79,26 @@ impl ShownCells {
         ensures ok { OnOk result (self.new ≡ put_cell self.old column value) }
         ensures err { OnErr result (self.new ≡ self.old) }
     {
-        drop(self.entries.insert(column, value)?);
+        match place_of(&self.cells, &column) {
+            Ok(at) => self.cells[at].1 = value,
+            Err(at) => self.cells.insert(at, (column, value))?,
+        }
         Ok(())
     }
 
     /// The values, ascending by column text.
-    pub fn entries(&self) -> &BTreeMap<Text, Value>
-        ensures { result.now.entries ≡ self.now }
+    pub fn entries(&self) -> &[(Text, Value)]
+        ensures { result.now ≡ self.now }
     {
-        &self.entries
+        &self.cells
     }
 
     /// Whether the same values stand under the same texts.
     pub fn same(&self, other: &ShownCells) -> bool
         ensures { result ≡ same_cells self.now other.now }
     {
-        let mut others = other.entries.iter();
-        for (text, value) in &self.entries {
+        let mut others = other.cells.iter();
+        for (text, value) in &self.cells {
             match others.next() {
                 Some((other_text, other_value))
                     if text.cmp(other_text).is_eq() && value.order(other_value).is_eq() => {}
@@ -94,17 +113,26 @@ impl ShownCells {
         ensures count { result ≡ length self.now }
         ensures ascending { IsStrictlySortedBy (slice_cmp nat_cmp) (keys_of self.now) }
     {
-        self.entries.len()
+        self.cells.len()
     }
 }
 
+/// Where the column's value stands, or else where it would go.
+fn place_of(cells: &[(Text, Value)], column: &Text) -> Result<usize, usize>
+    ensures within { IsSearchInRange result (length cells.now) }
+    ensures place { IsBinarySearchResult (λ c. slice_cmp nat_cmp c.0 column.now) cells.now result }
+{
+    cells.binary_search_by(|cell| cell.0.cmp(column))
+}
+
 impl Copies for ShownCells {
+    /// An equal value, with room for no more than it has.
     fn copies(&self, alloc: Global) -> Result<ShownCells, Memory> {
-        let mut entries = BTreeMap::new(alloc);
-        for (column, value) in &self.entries {
-            drop(entries.insert(column.copies(alloc)?, value.copies(alloc)?)?);
+        let mut cells = Vec::with_capacity(alloc, self.cells.len())?;
+        for (column, value) in &self.cells {
+            cells.push((column.copies(alloc)?, value.copies(alloc)?))?;
         }
-        Ok(ShownCells { entries })
+        Ok(ShownCells { cells })
     }
 }
 
