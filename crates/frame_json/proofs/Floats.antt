@@ -1,5 +1,5 @@
 -- A reply has no float in it.
-use Rattle.std.proofs.Common.{◌≡◌, ℕ, ℤ, pos, negsuc, List, [], ◌∷◌, Option, Some, None, Bool, true, false, ◌||◌, cond, map, Ordering, Less, Equal, Greater, nat_cmp, codes, refl}
+use Rattle.std.proofs.Common.{◌≡◌, ℕ, ℤ, pos, negsuc, List, [], ◌∷◌, Option, option_map, Some, None, Bool, true, false, ◌||◌, cond, map, Ordering, Less, Equal, Greater, nat_cmp, codes, refl}
 use Rattle.std.specs.Cmp.Lexicographic.{slice_cmp}
 use Rattle.std.specs.Fmt.{signed_decimal}
 use Rattle.std.specs.Ordering.{match_ordering}
@@ -20,12 +20,11 @@ use Rattle.view_types.specs.declared.key.ViewKey.{ViewKey}
 use Rattle.view_types.specs.declared.key.ViewKey.TheVariants as key
 use Rattle.view_types.specs.declared.shown.HeaderColumn.{HeaderColumn}
 use Rattle.view_types.specs.declared.shown.ShownRow.{ShownRow}
-use Rattle.delta_core.specs.declared.delta.Delta.{Delta}
 use Rattle.delta_core.specs.declared.delta.Put.{Put}
 use Rattle.frame_types.specs.declared.reply.Body.{Body}
 use Rattle.frame_types.specs.declared.reply.Body.TheVariants as body
 use Rattle.frame_types.specs.declared.reply.Reply.{Reply}
-use Rattle.frame_json.specs.Replies.{integer, pair, triple, tagged, whole_data, day_data, date_data, moment_data, value_data, part_data, key_data, keys_data, column_data, header_data, with_cells, cells_data, keyed_data, row_data, rows_data, put_data, puts_data, lost_view, lost_data, at_items, words_data, delta_reply, info_reply, body_data, reply_data}
+use Rattle.frame_json.specs.Replies.{integer, pair, triple, tagged, whole_data, day_data, date_data, moment_data, value_data, part_data, key_data, keys_data, column_data, header_data, with_cells, cells_data, keyed_data, row_data, rows_data, put_data, puts_data, natural, lost_view, lost_data, at_items, words_data, columns_data, Named, given, table_members, form_of, members_of, with_members, reply_data}
 
 abbrev Free : Data → Type 0
 Free d = has_float d ≡ false
@@ -135,10 +134,6 @@ puts-free ps = items-free put_data placed-free ps
 
 -- ---- replies
 
-delta_by : (n version : ℕ) (d : Delta) (header : Option (List HeaderColumn)) (view : ℕ) → Free (delta_reply n version (record d { header = header }) view)
-delta_by n version d None view = rw (puts-free d.puts, keys-free d.removed)
-delta_by n version d (Some cs) view = rw (header-free cs, puts-free d.puts, keys-free d.removed)
-
 lost-free : (vs : List (ℕ × ℕ)) → Free (lost_data vs)
 lost-free vs = items-free lost_view (λ v. refl) vs
 
@@ -147,30 +142,46 @@ at-free numbers.Zero = refl
 at-free (numbers.One a) = refl
 at-free (numbers.Two a b) = refl
 
-words-free : (c : ColumnWords) → Free (words_data c)
-words-free c = refl
+columns-free : (cs : List ColumnWords) → Free (columns_data cs)
+columns-free cs = items-free words_data (λ c. refl) cs
 
-info-free : (n version : ℕ) (columns : List ColumnWords) (index : Option (List ℕ)) (limit : Option ℕ) (size waiting : ℕ) → Free (info_reply n version columns index limit size waiting)
-info-free n version columns None None size waiting = rw (items-free words_data words-free columns)
-info-free n version columns None (Some l) size waiting = rw (items-free words_data words-free columns)
-info-free n version columns (Some i) None size waiting = rw (items-free words_data words-free columns)
-info-free n version columns (Some i) (Some l) size waiting = rw (items-free words_data words-free columns)
+-- each has a value without a float
+abbrev AllFree : List Named → Type 0
+AllFree [] = Unit {0}
+AllFree (m ∷ ms) = Free m.1 × AllFree ms
 
-body-free : (n version : ℕ) (b : Body) → Free (body_data n version b)
-body-free n version body.Table = refl
-body-free n version (body.Port port) = refl
-body-free n version (body.Queued port seq) = refl
-body-free n version (body.Applied port seq) = refl
-body-free n version (body.AppliedLosing lost port seq) = rw (lost-free lost)
-body-free n version (body.Opened edit shown view) = rw (header-free shown.header, rows-free shown.rows)
-body-free n version (body.Delta delta view) = delta_by n version delta delta.header view
-body-free n version (body.Resync bound edit shown view) = rw (header-free shown.header, rows-free shown.rows)
-body-free n version (body.Rows edit first shown size view) = rw (header-free shown.header, rows-free shown.rows)
-body-free n version (body.PortClosed port) = refl
-body-free n version (body.Closed view) = refl
-body-free n version (body.Left closed) = refl
-body-free n version (body.Info columns index limit size waiting) = info-free n version columns index limit size waiting
-body-free n version (body.Refused r) = rw (at-free r.at)
+header-given : (header : Option (List HeaderColumn)) → AllFree (given (codes "header") (option_map header_data header))
+header-given None = tt
+header-given (Some cs) = (header-free cs, tt)
+
+table-free : (columns : List ColumnWords) (index : Option (List ℕ)) (limit : Option ℕ) → AllFree (table_members columns index limit)
+table-free columns None None = (columns-free columns, tt)
+table-free columns None (Some l) = (columns-free columns, (refl, tt))
+table-free columns (Some i) None = (columns-free columns, (refl, tt))
+table-free columns (Some i) (Some l) = (columns-free columns, (refl, (refl, tt)))
+
+members-free : (b : Body) → AllFree (members_of b)
+members-free body.Table = tt
+members-free (body.Port port) = (refl, tt)
+members-free (body.PortClosed port) = (refl, tt)
+members-free (body.Queued port seq) = (refl, (refl, tt))
+members-free (body.Applied port seq) = (refl, (refl, tt))
+members-free (body.AppliedLosing lost port seq) = (lost-free lost, (refl, (refl, tt)))
+members-free (body.Opened edit shown view) = (header-free shown.header, (rows-free shown.rows, (refl, (refl, tt))))
+members-free (body.Delta delta view) = (refl, (refl, (refl, (puts-free delta.puts, (keys-free delta.removed, header-given delta.header)))))
+members-free (body.Resync bound edit shown view) = (header-free shown.header, (rows-free shown.rows, (refl, (refl, (refl, tt)))))
+members-free (body.Rows edit first shown size view) =
+    (header-free shown.header, (rows-free shown.rows, (refl, (refl, (refl, (refl, tt))))))
+members-free (body.Closed view) = (refl, tt)
+members-free (body.Left closed) = (refl, tt)
+members-free (body.Info columns index limit size waiting) = (refl, (refl, table-free columns index limit))
+members-free (body.Refused r) = (at-free r.at, (refl, (refl, tt)))
+
+with-free : (ms : Members) (named : List Named) → AreFree ms → AllFree named → AreFree (with_members ms named)
+with-free ms [] h k = h
+with-free ms (n ∷ named) h k = with-free (put n.0 n.1 ms) named (put-free n.0 n.1 ms k.0 h) k.1
 
 pub has_float-reply_data : (r : Reply) → has_float (reply_data r) ≡ false
-has_float-reply_data r = body-free r.n r.version r.body
+has_float-reply_data r =
+    let every : List Named = (codes "is", string (form_of r.body)) ∷ (codes "n", natural r.n) ∷ (codes "version", natural r.version) ∷ members_of r.body in
+    with-free no_members every refl (refl, (refl, (refl, members-free r.body)))

@@ -1,3 +1,4 @@
+pub mod Building
 pub mod Parsing
-pub mod Requests
 pub mod Replies
+pub mod Requests

@@ -1,5 +1,5 @@
 -- The text of a reply: the compact JSON of an object whose members stand in byte order of their names.
-use Rattle.std.specs.Prelude.{ℕ, ℤ, List, codes, map, fold, if◌then◌else◌, Bool, Option, Some, None, option_map}
+use Rattle.std.specs.Prelude.{ℕ, ℤ, List, [], ◌∷◌, ◌++◌, codes, map, fold, if◌then◌else◌, Bool, Option, Some, None, option_map}
 use Rattle.std.specs.Fmt.{signed_decimal}
 use Rattle.serde_json.specs.Data.{unsigned, Data, null, boolean, number, string, array, object, Items, no_items, item, Members, no_members, member, put}
 use Rattle.serde_json.specs.Find.{of_integer}
@@ -138,11 +138,6 @@ mark_data m = pair (natural m.version) (natural m.edit)
 
 -- ---- replies
 
--- a member that is left out where there is none
-abbrev pub with_member : List ℕ → Option Data → Members → Members
-with_member name None ms = ms
-with_member name (Some d) ms = member name d ms
-
 -- a view by its session and its number
 abbrev pub lost_view : ℕ × ℕ → Data
 lost_view v = pair (natural v.0) (natural v.1)
@@ -155,97 +150,90 @@ at_items numbers.Zero = no_items
 at_items (numbers.One a) = item (natural a) no_items
 at_items (numbers.Two a b) = item (natural a) (item (natural b) no_items)
 
-abbrev pub table_reply : ℕ → ℕ → Data
-table_reply n version = object (member (codes "is") (string (codes "table")) (member (codes "n") (natural n) (member (codes "version") (natural version) no_members)))
-
-abbrev pub port_reply : List ℕ → ℕ → ℕ → ℕ → Data
-port_reply is n version port =
-    object (member (codes "is") (string is) (member (codes "n") (natural n) (member (codes "port") (natural port)
-    (member (codes "version") (natural version) no_members))))
-
-abbrev pub batch_reply : List ℕ → ℕ → ℕ → ℕ → ℕ → Data
-batch_reply is n version port seq =
-    object (member (codes "is") (string is) (member (codes "n") (natural n) (member (codes "port") (natural port)
-    (member (codes "seq") (natural seq) (member (codes "version") (natural version) no_members)))))
-
-abbrev pub losing_reply : ℕ → ℕ → Data → ℕ → ℕ → Data
-losing_reply n version lost port seq =
-    object (member (codes "is") (string (codes "applied_losing")) (member (codes "lost") lost (member (codes "n") (natural n)
-    (member (codes "port") (natural port) (member (codes "seq") (natural seq) (member (codes "version") (natural version) no_members))))))
-
-abbrev pub opened_reply : ℕ → ℕ → ℕ → Shown → ℕ → Data
-opened_reply n version edit shown view =
-    object (member (codes "edit") (natural edit) (member (codes "header") (header_data shown.header) (member (codes "is") (string (codes "opened"))
-    (member (codes "n") (natural n) (member (codes "rows") (rows_data shown.rows) (member (codes "version") (natural version)
-    (member (codes "view") (natural view) no_members)))))))
-
--- of the mark at which the delta ends the edit number is written; the version is the reply's
-abbrev pub delta_reply : ℕ → ℕ → Delta → ℕ → Data
-delta_reply n version d view =
-    object (member (codes "edit") (natural d.to.edit) (member (codes "from") (mark_data d.«from»)
-    (with_member (codes "header") (option_map header_data d.header)
-    (member (codes "is") (string (codes "delta")) (member (codes "n") (natural n) (member (codes "put") (puts_data d.puts)
-    (member (codes "removed") (keys_data d.removed) (member (codes "version") (natural version)
-    (member (codes "view") (natural view) no_members)))))))))
-
-abbrev pub resync_reply : ℕ → ℕ → ℕ → ℕ → Shown → ℕ → Data
-resync_reply n version bound edit shown view =
-    object (member (codes "bound") (natural bound) (member (codes "edit") (natural edit) (member (codes "header") (header_data shown.header)
-    (member (codes "is") (string (codes "resync")) (member (codes "n") (natural n) (member (codes "rows") (rows_data shown.rows)
-    (member (codes "version") (natural version) (member (codes "view") (natural view) no_members))))))))
-
-abbrev pub rows_reply : ℕ → ℕ → ℕ → ℕ → Shown → ℕ → ℕ → Data
-rows_reply n version edit first shown size view =
-    object (member (codes "edit") (natural edit) (member (codes "from") (natural first) (member (codes "header") (header_data shown.header)
-    (member (codes "is") (string (codes "rows")) (member (codes "n") (natural n) (member (codes "rows") (rows_data shown.rows) (member (codes "size") (natural size)
-    (member (codes "version") (natural version) (member (codes "view") (natural view) no_members)))))))))
-
-abbrev pub closed_reply : ℕ → ℕ → ℕ → Data
-closed_reply n version view =
-    object (member (codes "is") (string (codes "closed")) (member (codes "n") (natural n)
-    (member (codes "version") (natural version) (member (codes "view") (natural view) no_members))))
-
-abbrev pub left_reply : ℕ → ℕ → ℕ → Data
-left_reply n version closed =
-    object (member (codes "closed") (natural closed) (member (codes "is") (string (codes "left")) (member (codes "n") (natural n)
-    (member (codes "version") (natural version) no_members))))
-
 -- `[name, type name]`
 abbrev pub words_data : ColumnWords → Data
 words_data c = pair (string c.name) (string c.kind)
 
-abbrev pub info_reply : ℕ → ℕ → List ColumnWords → Option (List ℕ) → Option ℕ → ℕ → ℕ → Data
-info_reply n version columns index limit size waiting =
-    object (member (codes "columns") (array (items_of (map words_data columns)))
-    (with_member (codes "index") (option_map (λ name. string name) index)
-    (member (codes "is") (string (codes "info"))
-    (with_member (codes "limit") (option_map natural limit)
-    (member (codes "n") (natural n) (member (codes "size") (natural size) (member (codes "version") (natural version)
-    (member (codes "waiting") (natural waiting) no_members))))))))
+abbrev pub columns_data : List ColumnWords → Data
+columns_data cs = array (items_of (map words_data cs))
 
-abbrev pub refused_reply : ℕ → ℕ → Refusal → Data
-refused_reply n version r =
-    object (member (codes "at") (array (at_items r.at)) (member (codes "cause") (string (cause_text r.cause)) (member (codes "code") (natural r.code)
-    (member (codes "is") (string (codes "refused")) (member (codes "n") (natural n) (member (codes "version") (natural version) no_members))))))
+-- members by their names
+abbrev pub Named : Type 0
+Named = List ℕ × Data
 
-abbrev pub body_data : ℕ → ℕ → Body → Data
-body_data n version body.Table = table_reply n version
-body_data n version (body.Port port) = port_reply (codes "port") n version port
-body_data n version (body.PortClosed port) = port_reply (codes "port_closed") n version port
-body_data n version (body.Queued port seq) = batch_reply (codes "queued") n version port seq
-body_data n version (body.Applied port seq) = batch_reply (codes "applied") n version port seq
-body_data n version (body.AppliedLosing lost port seq) = losing_reply n version (lost_data lost) port seq
-body_data n version (body.Opened edit shown view) = opened_reply n version edit shown view
-body_data n version (body.Delta delta view) = delta_reply n version delta view
-body_data n version (body.Resync bound edit shown view) = resync_reply n version bound edit shown view
-body_data n version (body.Rows edit first shown size view) = rows_reply n version edit first shown size view
-body_data n version (body.Closed view) = closed_reply n version view
-body_data n version (body.Left closed) = left_reply n version closed
-body_data n version (body.Info columns index limit size waiting) = info_reply n version columns index limit size waiting
-body_data n version (body.Refused r) = refused_reply n version r
+-- a member that is left out where there is none
+abbrev pub given : List ℕ → Option Data → List Named
+given name None = []
+given name (Some d) = (name, d) ∷ []
+
+abbrev pub numbers_named : List (List ℕ × ℕ) → List Named
+numbers_named ns = map (λ n. (n.0, natural n.1)) ns
+
+abbrev pub shown_members : Shown → List Named
+shown_members shown = (codes "header", header_data shown.header) ∷ (codes "rows", rows_data shown.rows) ∷ []
+
+-- of the mark at which the delta ends the edit number is written; the version is the reply's
+abbrev pub delta_members : Delta → List Named
+delta_members d =
+    (codes "edit", natural d.to.edit) ∷ (codes "from", mark_data d.«from») ∷ (codes "put", puts_data d.puts)
+    ∷ (codes "removed", keys_data d.removed) ∷ given (codes "header") (option_map header_data d.header)
+
+abbrev pub table_members : List ColumnWords → Option (List ℕ) → Option ℕ → List Named
+table_members columns index limit =
+    (codes "columns", columns_data columns) ∷ given (codes "index") (option_map string index)
+    ++ given (codes "limit") (option_map natural limit)
+
+abbrev pub refusal_members : Refusal → List Named
+refusal_members r =
+    (codes "at", array (at_items r.at)) ∷ (codes "cause", string (cause_text r.cause)) ∷ (codes "code", natural r.code) ∷ []
+
+-- a reply's form, which stands under `is`
+abbrev pub form_of : Body → List ℕ
+form_of body.Table = codes "table"
+form_of (body.Port port) = codes "port"
+form_of (body.PortClosed port) = codes "port_closed"
+form_of (body.Queued port seq) = codes "queued"
+form_of (body.Applied port seq) = codes "applied"
+form_of (body.AppliedLosing lost port seq) = codes "applied_losing"
+form_of (body.Opened edit shown view) = codes "opened"
+form_of (body.Delta delta view) = codes "delta"
+form_of (body.Resync bound edit shown view) = codes "resync"
+form_of (body.Rows edit first shown size view) = codes "rows"
+form_of (body.Closed view) = codes "closed"
+form_of (body.Left closed) = codes "left"
+form_of (body.Info columns index limit size waiting) = codes "info"
+form_of (body.Refused r) = codes "refused"
+
+-- the members that a form has beside `is`, `n` and `version`
+abbrev pub members_of : Body → List Named
+members_of body.Table = []
+members_of (body.Port port) = numbers_named ((codes "port", port) ∷ [])
+members_of (body.PortClosed port) = numbers_named ((codes "port", port) ∷ [])
+members_of (body.Queued port seq) = numbers_named ((codes "port", port) ∷ (codes "seq", seq) ∷ [])
+members_of (body.Applied port seq) = numbers_named ((codes "port", port) ∷ (codes "seq", seq) ∷ [])
+members_of (body.AppliedLosing lost port seq) =
+    (codes "lost", lost_data lost) ∷ numbers_named ((codes "port", port) ∷ (codes "seq", seq) ∷ [])
+members_of (body.Opened edit shown view) = shown_members shown ++ numbers_named ((codes "edit", edit) ∷ (codes "view", view) ∷ [])
+members_of (body.Delta delta view) = (codes "view", natural view) ∷ delta_members delta
+members_of (body.Resync bound edit shown view) =
+    shown_members shown ++ numbers_named ((codes "bound", bound) ∷ (codes "edit", edit) ∷ (codes "view", view) ∷ [])
+members_of (body.Rows edit first shown size view) =
+    shown_members shown
+    ++ numbers_named ((codes "edit", edit) ∷ (codes "from", first) ∷ (codes "size", size) ∷ (codes "view", view) ∷ [])
+members_of (body.Closed view) = numbers_named ((codes "view", view) ∷ [])
+members_of (body.Left closed) = numbers_named ((codes "closed", closed) ∷ [])
+members_of (body.Info columns index limit size waiting) =
+    numbers_named ((codes "size", size) ∷ (codes "waiting", waiting) ∷ []) ++ table_members columns index limit
+members_of (body.Refused r) = refusal_members r
+
+-- the members with others, each in its place in byte order of the names
+abbrev pub with_members : Members → List Named → Members
+with_members ms named = fold (λ found n. put n.0 n.1 found) ms named
 
 abbrev pub reply_data : Reply → Data
-reply_data r = body_data r.n r.version r.body
+reply_data r =
+    object (with_members no_members ((codes "is", string (form_of r.body)) ∷ (codes "n", natural r.n)
+    ∷ (codes "version", natural r.version) ∷ members_of r.body))
 
 abbrev pub text : Reply → List ℕ
 text r = compact_text (reply_data r)

@@ -10,28 +10,13 @@ use Rattle.cell_core.specs.declared.schema.ColumnWords.{ColumnWords}
 use Rattle.row_batch.specs.Checks.{is_integer}
 use Rattle.frame_types.specs.Asks.{Ask}
 use Rattle.frame_types.specs.Asks as ask
+use Rattle.frame_types.specs.Limits.{max_line, max_bound, max_depth, client_sessions}
 use Rattle.frame_types.specs.declared.request.FrameCause.{FrameCause}
 use Rattle.frame_types.specs.declared.request.FrameCause.TheVariants as cause
 use Rattle.json_rows.specs.RawOf.{raw_data}
 use Rattle.frame_json.specs.Parsing.{json_of}
 use Rattle.frame_json.specs.declared.op.Op.{Op}
 use Rattle.frame_json.specs.declared.op.Op.TheVariants as op
-
--- the most bytes of a line
-abbrev pub max_line : ℕ
-max_line = 1048576
-
--- the greatest `bound`, which is also the one that is left out
-abbrev pub max_bound : ℕ
-max_bound = 65536
-
--- the greatest `depth`, and the most parts of a `path`
-abbrev pub max_groups : ℕ
-max_groups = 8
-
--- sessions of clients are numbered below this
-abbrev pub sessions : ℕ
-sessions = 64
 
 -- ---- members
 
@@ -80,7 +65,7 @@ below end n = if nat_lt n end then Some n else None
 
 abbrev pub session_of : Option Data → Option ℕ
 session_of None = Some 0
-session_of (Some d) = option_and_then (below sessions) (natural_of d)
+session_of (Some d) = option_and_then (below client_sessions) (natural_of d)
 
 -- `[name, type name]`
 abbrev pub words_of : Data → Data → Option ColumnWords
@@ -146,7 +131,7 @@ count_items no_items = 0
 count_items (item d ds) = count_items ds + 1
 
 abbrev pub is_path : Data → Bool
-is_path (array ds) = nat_le (count_items ds) max_groups && are_parts ds
+is_path (array ds) = nat_le (count_items ds) max_depth && are_parts ds
 is_path other = false
 
 -- ---- each form
@@ -200,7 +185,7 @@ abbrev pub edit_of : Members → Option Ask
 edit_of ms = unbuilt (option_and_then (λ v. get_member (codes "plan") ms) (view_of ms))
 
 abbrev pub depth_of : Members → Option Ask
-depth_of ms = unbuilt (option_and_then (λ v. option_and_then (up_to max_groups) (natural (codes "depth") ms)) (view_of ms))
+depth_of ms = unbuilt (option_and_then (λ v. option_and_then (up_to max_depth) (natural (codes "depth") ms)) (view_of ms))
 
 abbrev pub if_path : Data → Option Data
 if_path d = if is_path d then Some d else None

@@ -10,13 +10,10 @@ use crate::member::{
 use crate::op::Op;
 use crate::path::is_path;
 use cell_core::{Memory, Text};
-use frame_types::{FrameCause, Request};
+use frame_types::{FrameCause, MAX_DEPTH, Request};
 use json_rows::raw_of;
 use serde_json::Value;
 use std::alloc::Global;
-
-/// The greatest depth to which groups are opened.
-const MAX_DEPTH: u64 = 8;
 
 /// The request of a form, if its members are of their forms. A form that isn't built yet is unread.
 pub(crate) fn requested(alloc: Global, op: Op, members: Members) -> Result<Option<Request>, Memory>

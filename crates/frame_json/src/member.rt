@@ -4,14 +4,9 @@ ghost use Rattle.serde_json.specs.View.{view, items_view, members_view};
 ghost use Rattle.frame_json.specs.Requests.{whole_of, natural_of, natural, words, optional, bound_of, wait_of, session_of, words_of, pair_of, column_of, columns_of, columns};
 
 use cell_core::{ColumnWords, Columns, Listed, Memory, Text};
+use frame_types::{CLIENT_SESSIONS, MAX_BOUND};
 use serde_json::{Map, Value};
 use std::alloc::Global;
-
-/// The greatest `bound`, which is also the one that is left out.
-const MAX_BOUND: u64 = 65536;
-
-/// The number of sessions that a request may name.
-const SESSIONS: u64 = 64;
 
 /// The members of an object.
 pub(crate) type Members = Map<String, Value>;
@@ -102,13 +97,13 @@ pub(crate) fn wait_at(members: &Members) -> Option<bool>
 /// The session that asks, which a script may name.
 pub(crate) fn session_at(members: &Members) -> Option<u32>
     ensures session { result ≡ session_of (get_member (codes "session") (members_view members.now.entries)) }
-    ensures within { IfSome result (λ session. session < 64) }
+    ensures within { IfSome result (λ session. session < CLIENT_SESSIONS) }
 {
     let Some(value) = member(members, "session") else {
         return Some(0);
     };
     let session = natural_in(value)?;
-    if session < SESSIONS {
+    if session < u64::from(CLIENT_SESSIONS) {
         Some(session as u32)
     } else {
         None

@@ -9,13 +9,10 @@ use crate::member::{Members, session_at, words_at};
 use crate::op::{Op, has_member, op_of};
 use crate::parse::parsed;
 use cell_core::Memory;
-use frame_types::{Asked, FrameCause, Request};
+use frame_types::{Asked, CLIENT_SESSIONS, FrameCause, MAX_LINE, Request};
 use json_rows::raw_of;
 use serde_json::Value;
 use std::alloc::Global;
-
-/// The most bytes of a line.
-const MAX_LINE: usize = 1048576;
 
 fn has_all(scripted: bool, op: Op, members: &Members) -> bool
     ensures { result ≡ all_belong scripted op (members_view members.now.entries) }
@@ -40,9 +37,9 @@ fn unread(cause: FrameCause) -> Asked
 
 /// The request as its session's. What isn't read is session 0's.
 fn asked_in(session: u32, request: Request) -> Asked
-    requires { session < 64 }
+    requires { session < CLIENT_SESSIONS }
     ensures asked { asked_view result ≡ asked_in session (request_view request) }
-    ensures session { result.session < 64 }
+    ensures session { result.session < CLIENT_SESSIONS }
 {
     match request {
         Request::Unread(cause) => unread(cause),
@@ -51,9 +48,9 @@ fn asked_in(session: u32, request: Request) -> Asked
 }
 
 fn asked(session: Option<u32>, request: Option<Request>) -> Asked
-    requires { IfSome session (λ s. s < 64) }
+    requires { IfSome session (λ s. s < CLIENT_SESSIONS) }
     ensures asked { asked_view result ≡ asked session (option_map request_view request) }
-    ensures session { result.session < 64 }
+    ensures session { result.session < CLIENT_SESSIONS }
 {
     match (session, request) {
         (Some(session), Some(request)) => asked_in(session, request),
@@ -69,7 +66,7 @@ fn of_known(
 ) -> Result<Asked, Memory>
     ensures asked { IfOk result (λ a. asked_view a
         ≡ of_op scripted (members_view members.entries) op) }
-    ensures session { IfOk result (λ a. a.session < 64) }
+    ensures session { IfOk result (λ a. a.session < CLIENT_SESSIONS) }
 {
     let Some(op) = op else {
         return Ok(unread(FrameCause::Op));
@@ -83,7 +80,7 @@ fn of_known(
 
 fn of_value(alloc: Global, scripted: bool, value: Value) -> Result<Asked, Memory>
     ensures asked { IfOk result (λ a. asked_view a ≡ of_object scripted (as_object (view value))) }
-    ensures session { IfOk result (λ a. a.session < 64) }
+    ensures session { IfOk result (λ a. a.session < CLIENT_SESSIONS) }
 {
     match value {
         Value::Object(members) => {
@@ -101,7 +98,7 @@ fn of_value(alloc: Global, scripted: bool, value: Value) -> Result<Asked, Memory
 /// a request may name its session; elsewhere `session` is an unknown member.
 pub fn read_request(alloc: Global, line: &[u8], scripted: bool) -> Result<Asked, Memory>
     ensures request { IfOk result (λ a. asked_view a ≡ request_of line.now scripted) }
-    ensures session { IfOk result (λ a. a.session < 64) }
+    ensures session { IfOk result (λ a. a.session < CLIENT_SESSIONS) }
 {
     if line.len() > MAX_LINE {
         return Ok(unread(FrameCause::Long));

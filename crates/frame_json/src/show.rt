@@ -1,11 +1,10 @@
 ghost use Rattle.std.specs.Prelude.{◌≡◌, [], IfOk, map};
 ghost use Rattle.serde_json.specs.Data.{no_members, string};
 ghost use Rattle.serde_json.specs.View.{view, members_view};
-ghost use Rattle.cal_units.specs.Calendar.{IsDay};
 ghost use Rattle.cal_units.specs.DateText.{date_text};
 ghost use Rattle.frame_json.specs.Replies.{pair as pair_data, triple as triple_data, tagged as tagged_data, whole_data, fraction_data, day_data, date_data, moment_data, value_data, part_data, row_key as row_key_data, group_key as group_key_data, key_data, keys_data, column_data, header_data, with_cells, cells_data, row_data, rows_data, put_data, puts_data};
 
-use cal_units::{FIRST_DAY, LAST_DAY, write_date};
+use cal_units::{Day, Moment, write_date};
 use cell_core::{Cell, Fraction, Memory, Value as ShownValue};
 use delta_core::Put;
 use row_batch::MAX_INTEGER;
@@ -59,8 +58,7 @@ fn fraction(alloc: Global, fraction: &Fraction) -> Result<Value, Memory>
     pair(alloc, numerator, denominator)
 }
 
-fn date_words(alloc: Global, day: i32) -> Result<Value, Memory>
-    requires { IsDay day }
+fn date_words(alloc: Global, day: Day) -> Result<Value, Memory>
     ensures { IfOk result (λ v. view v ≡ string (date_text day)) }
 {
     let digits = write_date(day);
@@ -70,26 +68,24 @@ fn date_words(alloc: Global, day: i32) -> Result<Value, Memory>
     }
 }
 
-/// A date, or the number of a day that no table holds.
-fn day_value(alloc: Global, day: i32) -> Result<Value, Memory>
+/// A day is in range by its type, and so it is written as its date.
+fn day_value(alloc: Global, day: Day) -> Result<Value, Memory>
     ensures { IfOk result (λ v. view v ≡ day_data day) }
 {
-    if FIRST_DAY <= day && day <= LAST_DAY {
-        return date_words(alloc, day);
-    }
-    Ok(Value::from(day as i64))
+    let _in_range = day.number();
+    date_words(alloc, day)
 }
 
-fn date(alloc: Global, day: i32) -> Result<Value, Memory>
+fn date(alloc: Global, day: Day) -> Result<Value, Memory>
     ensures { IfOk result (λ v. view v ≡ date_data day) }
 {
     tagged(alloc, "d", day_value(alloc, day)?)
 }
 
-fn moment(alloc: Global, time: i64) -> Result<Value, Memory>
+fn moment(alloc: Global, time: Moment) -> Result<Value, Memory>
     ensures { IfOk result (λ v. view v ≡ moment_data time) }
 {
-    tagged(alloc, "t", Value::from(time))
+    tagged(alloc, "t", Value::from(time.number()))
 }
 
 fn value_of(alloc: Global, value: &ShownValue) -> Result<Value, Memory>

@@ -1,7 +1,7 @@
 ghost use Rattle.std.specs.Prelude.{◌≡◌, false, IfOk};
 
 use crate::{read_request, write_reply};
-use cell_core::{Cell, ColumnWords, Fraction, Listed, Memory, Numbers, Text, Value};
+use cell_core::{Cell, ColumnWords, Day, Fraction, Listed, Memory, Moment, Numbers, Text, Value};
 use delta_core::{Delta, Keys, Mark, Put, Puts};
 use frame_types::{Body, Cause, FrameCause, Refusal, Reply, Request};
 use std::alloc::Global;
@@ -399,8 +399,8 @@ fn path(alloc: Global) -> Result<Listed<Cell>, Memory> {
     path.push(Cell::Null)?;
     path.push(Cell::Bool(true))?;
     path.push(Cell::Int(-4))?;
-    path.push(Cell::Date(0))?;
-    path.push(Cell::Moment(1500))?;
+    path.push(Cell::Date(Day::of(0)))?;
+    path.push(Cell::Moment(Moment::of(1500)))?;
     path.push(Cell::Words(Text::from_str(alloc, "x")?))?;
     Ok(path)
 }
@@ -414,10 +414,10 @@ fn odd_cells(alloc: Global) -> Result<ShownCells, Memory> {
     let mut cells = ShownCells::new(alloc);
     cells.put(Text::from_str(alloc, "w")?, Value::Words(odd_text(alloc)?))?;
     cells.put(Text::from_str(alloc, "b")?, Value::Bool(false))?;
-    cells.put(Text::from_str(alloc, "d")?, Value::Date(2932896))?;
+    cells.put(Text::from_str(alloc, "d")?, Value::Date(Day::of(2932896)))?;
     let fraction = Fraction::reduced(-2, 6);
     cells.put(Text::from_str(alloc, "f")?, Value::Fraction(fraction))?;
-    cells.put(Text::from_str(alloc, "t")?, Value::Moment(-1))?;
+    cells.put(Text::from_str(alloc, "t")?, Value::Moment(Moment::of(-1)))?;
     cells.put(Text::from_str(alloc, "m")?, Value::Whole(9007199254740991))?;
     cells.put(Text::from_str(alloc, "n")?, Value::Whole(-9007199254740992))?;
     Ok(cells)

@@ -1,2 +1,4 @@
 pub mod Asks
+pub mod Limits
 pub mod Refusals
+pub mod ReplyData

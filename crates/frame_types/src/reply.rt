@@ -1,5 +1,6 @@
 use cell_core::{Columns, Listed, Numbers, Text};
 use delta_core::Delta;
+use std::marker::Model;
 use view_types::Shown;
 
 /// Why a request was refused, in a refusal's words. One cause can stand under several codes.
@@ -171,7 +172,7 @@ pub enum Body {
     Refused(Refusal),
 }
 
-/// The reply to one request.
+/// The reply to one request. A delta in it ends at the reply's version.
 #[derive(Debug, Drop)]
 pub struct Reply {
     /// The request's number in its session, counted from 1.
@@ -179,4 +180,14 @@ pub struct Reply {
     /// How many batches were applied by then.
     pub version: u64,
     pub body: Body,
+}
+
+impl Model for Reply {
+    ghost use Rattle.frame_types.specs.ReplyData.{ReplyData, EndsAt};
+
+    ghost Value = { ReplyData };
+
+    ghost view = { λ r. record { n = r.n; version = r.version; body = r.body } };
+
+    ghost invariant = { λ r. EndsAt r.version r.body };
 }

@@ -39,8 +39,11 @@ impl LocalCaller {
 
 impl Caller for LocalCaller {
     ghost use Rattle.hub_core.specs.Callers.{hub_of};
+    ghost use Rattle.std.specs.Prelude.{true};
 
     ghost stands = { λ c. StandsFor (hub_of c) };
+
+    ghost speaks = { λ _ _. true };
 
     ghost limit = { λ c. limit_of (hub_of c) };
 
@@ -62,6 +65,6 @@ fn counted_step<L: Ledger>(hub: &mut Hub, session: u32, request: Request, blank:
         → runs.Steps (limit_of hub.old) h session (request_view request) result (StandsFor hub.new) }
     ensures limit { limit_of hub.new ≡ limit_of hub.old }
 {
-    let mut steps = Steps::<L>::make(blank);
+    let mut steps = Steps::<L>::new(blank);
     hub.step(session, request, &mut steps)
 }

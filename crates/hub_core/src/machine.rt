@@ -34,6 +34,7 @@ impl Machine {
     ghost use Rattle.cell_core.specs.Schemas.{schema_of};
     ghost use Rattle.frame_types.specs.Asks as ask;
     ghost use Rattle.frame_types.specs.Refusals as refusals;
+    ghost use Rattle.frame_types.specs.ReplyData.{EndsAt};
     ghost use Rattle.hub_spec.specs.Answered.{Answered};
     ghost use Rattle.hub_core.specs.Holding.{Holds, Does};
     ghost use Rattle.hub_core.specs.Refusing.{body_in};
@@ -52,11 +53,13 @@ impl Machine {
         }
     }
 
-    /// Answers one request of a session, where the history isn't full.
+    /// Answers one request of a session, where the history isn't full. A delta in the answer ends at the version
+    /// that the machine then has.
     pub fn act<L: Ledger>(&mut self, session: u32, request: Request, steps: &mut Steps<L>) -> Body
         requires { session ≤ 65 }
-        ensures { (past : List Answered) → Holds self.old past → length past < 2 ^ 53
+        ensures does { (past : List Answered) → Holds self.old past → length past < 2 ^ 53
             → Does past session (ask.request_view request) result self.new }
+        ensures ends { EndsAt self.new.version result }
     {
         match self.answer(session, request, steps) {
             Ok(answer) => answer,
@@ -72,8 +75,9 @@ impl Machine {
         steps: &mut Steps<L>,
     ) -> Result<Body, Refusal>
         requires { session ≤ 65 }
-        ensures { (past : List Answered) → Holds self.old past → length past < 2 ^ 53
+        ensures does { (past : List Answered) → Holds self.old past → length past < 2 ^ 53
             → Does past session (ask.request_view request) (body_in result) self.new }
+        ensures ends { IfOk result (EndsAt self.new.version) }
     {
         match request {
             Request::Table {
@@ -106,8 +110,9 @@ impl Machine {
         index: Option<Text>,
         limit: Option<i64>,
     ) -> Result<Body, Refusal>
-        ensures { (past : List Answered) → Holds self.old past → length past < 2 ^ 53
+        ensures does { (past : List Answered) → Holds self.old past → length past < 2 ^ 53
             → (session : ℕ) → Does past session (ask.table columns index limit) (body_in result) self.new }
+        ensures ends { IfOk result (EndsAt self.new.version) }
     {
         if self.table.is_some() {
             return Err(refused::table_set());
@@ -122,10 +127,11 @@ impl Machine {
     /// Makes the table of a schema, where there is none yet.
     fn keep_table(&mut self, schema: Schema) -> Result<Body, Refusal>
         requires { self.old.table ≡ None }
-        ensures { (past : List Answered) → Holds self.old past
+        ensures does { (past : List Answered) → Holds self.old past
             → (session : ℕ) (columns : List ColumnWords) (index : Option (List ℕ)) (limit : Option ℤ)
             → schema_of columns index limit ≡ Ok schema
             → Does past session (ask.table columns index limit) (body_in result) self.new }
+        ensures ends { IfOk result (EndsAt self.new.version) }
     {
         match Table::make(self.alloc, schema) {
             Ok(table) => {

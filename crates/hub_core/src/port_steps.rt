@@ -4,6 +4,7 @@ ghost use Rattle.cell_core.specs.RawViews.{raw_view};
 ghost use Rattle.row_batch.specs.Batches.{rows_in};
 ghost use Rattle.frame_types.specs.Asks.{Ask};
 ghost use Rattle.frame_types.specs.Asks as ask;
+ghost use Rattle.frame_types.specs.ReplyData.{EndsAt};
 ghost use Rattle.hub_ports.specs.Ports.{port_at};
 ghost use Rattle.hub_spec.specs.Answered.{Answered};
 ghost use Rattle.hub_spec.specs.Answers.{without_port, closed_port};
@@ -29,8 +30,9 @@ use std::sync::ledger::Ledger;
 impl Machine {
     /// Makes a port.
     pub fn make_port(&mut self) -> Result<Body, Refusal>
-        ensures { (past : List Answered) → Holds self.old past → length past < 2 ^ 53
+        ensures does { (past : List Answered) → Holds self.old past → length past < 2 ^ 53
             → (session : ℕ) → Does past session ask.port (body_in result) self.new }
+        ensures ends { IfOk result (EndsAt self.new.version) }
     {
         let _table = self.table()?;
         if self.ports.is_full() {
@@ -69,8 +71,9 @@ impl Machine {
         rows: Raw,
         steps: &mut Steps<L>,
     ) -> Result<Body, Refusal>
-        ensures { (past : List Answered) → Holds self.old past → length past < 2 ^ 53
+        ensures does { (past : List Answered) → Holds self.old past → length past < 2 ^ 53
             → (session : ℕ) → Does past session (ask.update port (raw_view rows)) (body_in result) self.new }
+        ensures ends { IfOk result (EndsAt self.new.version) }
     {
         let table = self.table()?;
         let place = self.open_port(port)?;
@@ -87,8 +90,9 @@ impl Machine {
         rows: Raw,
         steps: &mut Steps<L>,
     ) -> Result<Body, Refusal>
-        ensures { (past : List Answered) → Holds self.old past → length past < 2 ^ 53
+        ensures does { (past : List Answered) → Holds self.old past → length past < 2 ^ 53
             → (session : ℕ) → Does past session (ask.replace port (raw_view rows)) (body_in result) self.new }
+        ensures ends { IfOk result (EndsAt self.new.version) }
     {
         let table = self.table()?;
         let place = self.open_port(port)?;
@@ -105,8 +109,9 @@ impl Machine {
         text: Text,
         steps: &mut Steps<L>,
     ) -> Result<Body, Refusal>
-        ensures { (past : List Answered) → Holds self.old past → length past < 2 ^ 53
+        ensures does { (past : List Answered) → Holds self.old past → length past < 2 ^ 53
             → (session : ℕ) → Does past session (ask.csv port text) (body_in result) self.new }
+        ensures ends { IfOk result (EndsAt self.new.version) }
     {
         let table = self.table()?;
         let place = self.open_port(port)?;
@@ -118,8 +123,9 @@ impl Machine {
 
     /// Queues the removal of the rows of some keys.
     pub fn remove(&mut self, port: u64, keys: Raw) -> Result<Body, Refusal>
-        ensures { (past : List Answered) → Holds self.old past → length past < 2 ^ 53
+        ensures does { (past : List Answered) → Holds self.old past → length past < 2 ^ 53
             → (session : ℕ) → Does past session (ask.remove port (raw_view keys)) (body_in result) self.new }
+        ensures ends { IfOk result (EndsAt self.new.version) }
     {
         let table = self.table()?;
         let place = self.open_port(port)?;
@@ -134,8 +140,9 @@ impl Machine {
 
     /// Queues the removal of all rows.
     pub fn clear(&mut self, port: u64) -> Result<Body, Refusal>
-        ensures { (past : List Answered) → Holds self.old past → length past < 2 ^ 53
+        ensures does { (past : List Answered) → Holds self.old past → length past < 2 ^ 53
             → (session : ℕ) → Does past session (ask.clear port) (body_in result) self.new }
+        ensures ends { IfOk result (EndsAt self.new.version) }
     {
         let _table = self.table()?;
         let place = self.open_port(port)?;
@@ -152,11 +159,12 @@ impl Machine {
         requires within { place < length self.old.ports.live }
         requires small { rows_in batch ≤ MAX_BATCH }
         requires taken { IsTaken (schema_in self.old.table) batch }
-        ensures { (past : List Answered) → Holds self.old past → length past < 2 ^ 53
+        ensures does { (past : List Answered) → Holds self.old past → length past < 2 ^ 53
             → (port_at self.old.ports.live place).queue.closed ≡ false
             → (session : ℕ) (request : Ask) → batch_asked (schema past) request ≡ Some batch
             → may_choose past request want (rows_answer past (port_at self.old.ports.live place).number batch) ≡ true
             → DoesBy (rows_answer past (port_at self.old.ports.live place).number batch) past session request (body_in result) self.new }
+        ensures ends { IfOk result (EndsAt self.new.version) }
     {
         if self.ports.queue(place).is_full() {
             return Err(refused::port_full());
@@ -173,11 +181,12 @@ impl Machine {
         requires within { place < length self.old.ports.live }
         requires small { rows_in batch ≤ MAX_BATCH }
         requires taken { IsTaken (schema_in self.old.table) batch }
-        ensures { (past : List Answered) → Holds self.old past → length past < 2 ^ 53
+        ensures does { (past : List Answered) → Holds self.old past → length past < 2 ^ 53
             → (port_at self.old.ports.live place).queue.closed ≡ false
             → (session : ℕ) (request : Ask) → batch_asked (schema past) request ≡ Some batch
             → may_choose past request want (put_answer past (port_at self.old.ports.live place).number) ≡ true
             → DoesBy (put_answer past (port_at self.old.ports.live place).number) past session request (body_in result) self.new }
+        ensures ends { IfOk result (EndsAt self.new.version) }
     {
         let port = self.ports.number(place);
         match self.ports.put(place, batch) {
@@ -190,8 +199,9 @@ impl Machine {
 
     /// Closes a port.
     pub fn close_port(&mut self, port: u64) -> Result<Body, Refusal>
-        ensures { (past : List Answered) → Holds self.old past → length past < 2 ^ 53
+        ensures does { (past : List Answered) → Holds self.old past → length past < 2 ^ 53
             → (session : ℕ) → Does past session (ask.close_port port) (body_in result) self.new }
+        ensures ends { IfOk result (EndsAt self.new.version) }
     {
         let _table = self.table()?;
         let place = self.open_port(port)?;
@@ -201,8 +211,9 @@ impl Machine {
 
     /// Applies the oldest batch that waits on a port.
     pub fn apply<L: Ledger>(&mut self, port: u64, steps: &mut Steps<L>) -> Result<Body, Refusal>
-        ensures { (past : List Answered) → Holds self.old past → length past < 2 ^ 53
+        ensures does { (past : List Answered) → Holds self.old past → length past < 2 ^ 53
             → (session : ℕ) → Does past session (ask.apply port) (body_in result) self.new }
+        ensures ends { IfOk result (EndsAt self.new.version) }
     {
         let Some(table) = &mut self.table else {
             return Err(refused::no_table());

@@ -2,6 +2,7 @@ ghost use Rattle.std.specs.Prelude.{◌≡◌, ◌+◌, ◌≤◌, ◌++◌, ℕ
 ghost use Rattle.std.specs.Vec.{vec_len, vec_capacity};
 ghost use Rattle.plain_data.specs.Distinct.{AreDistinct};
 ghost use Rattle.plain_view.specs.Flat.{flat_view};
+ghost use Rattle.frame_types.specs.ReplyData.{EndsAt};
 ghost use Rattle.hub_spec.specs.Histories.{is_ascending};
 ghost use Rattle.hub_core.specs.Refreshing.{AreRefreshed, IsBrought, IsRefreshed, applied_body, is_loss, losses};
 
@@ -78,8 +79,9 @@ pub fn refresh_views<L: Ledger>(
 
 /// The answer to an applied batch, by the views that were lost.
 pub fn applied(port: u64, seq: u64, mut lost: Vec<(u32, u64)>) -> Body
-    ensures { AreDistinct lost.items → (told : List (ℕ × ℕ)) × (result ≡ applied_body port seq told)
+    ensures told { AreDistinct lost.items → (told : List (ℕ × ℕ)) × (result ≡ applied_body port seq told)
         × IsPermutation lost.items told × (is_ascending told ≡ true) }
+    ensures ends { (version : ℕ) → EndsAt version result }
 {
     lost.sort_unstable();
     if lost.is_empty() {

@@ -1,7 +1,8 @@
-ghost use Rattle.std.specs.Prelude.{◌≡◌, ℕ, Bool, List, ◌<◌, ◌≤◌, ◌^◌, length};
+ghost use Rattle.std.specs.Prelude.{◌≡◌, ℕ, Bool, List, ◌<◌, ◌≤◌, ◌^◌, length, IfOk};
 ghost use Rattle.cell_core.specs.RawData.{raw_map};
 ghost use Rattle.cell_core.specs.RawViews.{raw_view, map_view};
 ghost use Rattle.frame_types.specs.Asks as ask;
+ghost use Rattle.frame_types.specs.ReplyData.{EndsAt};
 ghost use Rattle.hub_spec.specs.Answered.{Answered};
 ghost use Rattle.hub_spec.specs.Answers.{is_empty_plan};
 ghost use Rattle.hub_core.specs.Holding.{Holds, Does};
@@ -29,8 +30,9 @@ impl Machine {
         steps: &mut Steps<L>,
     ) -> Result<Body, Refusal>
         requires { session ≤ 65 }
-        ensures { (past : List Answered) → Holds self.old past → length past < 2 ^ 53
+        ensures does { (past : List Answered) → Holds self.old past → length past < 2 ^ 53
             → Does past session (ask.open_view (raw_view plan) bound) (body_in result) self.new }
+        ensures ends { IfOk result (EndsAt self.new.version) }
     {
         let table = self.table()?;
         if !is_empty_plan(&plan) {
@@ -72,8 +74,9 @@ impl Machine {
     /// Tells what changed in a view since its base, or all that it shows, where more keys were touched than
     /// its bound. The view's base is then this step.
     pub fn take(&mut self, session: u32, view: u64) -> Result<Body, Refusal>
-        ensures { (past : List Answered) → Holds self.old past → length past < 2 ^ 53
+        ensures does { (past : List Answered) → Holds self.old past → length past < 2 ^ 53
             → (wait : Bool) → Does past session (ask.take view wait) (body_in result) self.new }
+        ensures ends { IfOk result (EndsAt self.new.version) }
     {
         let _table = self.table()?;
         let Some(held) = find_view(self.views.as_slice(), session, view) else {
@@ -96,8 +99,9 @@ impl Machine {
 
     /// Shows the rows of a view at positions `from` up to and without `to`.
     pub fn rows(&mut self, session: u32, view: u64, from: u64, to: u64) -> Result<Body, Refusal>
-        ensures { (past : List Answered) → Holds self.old past → length past < 2 ^ 53
+        ensures does { (past : List Answered) → Holds self.old past → length past < 2 ^ 53
             → Does past session (ask.rows view from to) (body_in result) self.new }
+        ensures ends { IfOk result (EndsAt self.new.version) }
     {
         let _table = self.table()?;
         let Some(held) = find_view(self.views.as_slice(), session, view) else {
@@ -126,8 +130,9 @@ impl Machine {
 
     /// Closes a view.
     pub fn close(&mut self, session: u32, view: u64) -> Result<Body, Refusal>
-        ensures { (past : List Answered) → Holds self.old past → length past < 2 ^ 53
+        ensures does { (past : List Answered) → Holds self.old past → length past < 2 ^ 53
             → Does past session (ask.close view) (body_in result) self.new }
+        ensures ends { IfOk result (EndsAt self.new.version) }
     {
         let _table = self.table()?;
         let Some(_held) = find_view(self.views.as_slice(), session, view) else {
@@ -139,8 +144,9 @@ impl Machine {
 
     /// Closes all views that a session holds.
     pub fn leave(&mut self, session: u32) -> Body
-        ensures { (past : List Answered) → Holds self.old past → length past < 2 ^ 53
+        ensures does { (past : List Answered) → Holds self.old past → length past < 2 ^ 53
             → Does past session ask.leave result self.new }
+        ensures ends { EndsAt self.new.version result }
     {
         let closed = count_views(self.views.as_slice(), session) as u64;
         drop_views(&mut self.views, session);
@@ -149,8 +155,9 @@ impl Machine {
 
     /// Tells of the table.
     pub fn info(&mut self) -> Result<Body, Refusal>
-        ensures { (past : List Answered) → Holds self.old past → length past < 2 ^ 53
+        ensures does { (past : List Answered) → Holds self.old past → length past < 2 ^ 53
             → (session : ℕ) → Does past session ask.info (body_in result) self.new }
+        ensures ends { IfOk result (EndsAt self.new.version) }
     {
         let table = self.table()?;
         let schema = table.schema();

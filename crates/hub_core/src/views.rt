@@ -46,6 +46,7 @@ impl LiveView {
     ghost use Rattle.delta_core.specs.Deltas.{delta_of};
     ghost use Rattle.delta_core.specs.DirtySets.{dirty_of};
     ghost use Rattle.view_types.specs.declared.key.ViewKey.{ViewKey};
+    ghost use Rattle.frame_types.specs.ReplyData.{EndsAt};
     ghost use Rattle.frame_types.specs.declared.reply.Body.TheVariants as body;
 
     /// A view that shows this at its base.
@@ -59,9 +60,10 @@ impl LiveView {
 
     /// The delta from its base to a mark, or all that it shows, where more keys were touched than the bound.
     pub fn told(&self, alloc: Global, bound: u64, view: u64, mark: Mark) -> Result<Body, Memory>
-        ensures { (keys : List (ViewKey × Bool)) (header : Bool) → self.now.dirty ≡ dirty_of bound keys header
+        ensures told { (keys : List (ViewKey × Bool)) (header : Bool) → self.now.dirty ≡ dirty_of bound keys header
             → IfOk result (λ answer. answer ≡ (if nat_le (length keys) bound then body.Delta (delta_of keys header self.now.shown self.now.base mark) view
             else body.Resync bound mark.edit self.now.shown view)) }
+        ensures ends { IfOk result (EndsAt mark.version) }
     {
         if self.dirty.over() {
             return Ok(Body::Resync {

@@ -2,3 +2,4 @@ pub mod Ports
 pub mod Said
 pub mod Worked
 pub mod Folding
+pub mod Calling

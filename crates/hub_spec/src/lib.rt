@@ -13,7 +13,7 @@ ghost use Rattle.hub_spec.specs.Laws.{AppliedThenWaiting, AppliedInOrder, Deltas
 
 mod caller;
 
-pub use caller::Caller;
+pub use caller::{Caller, call_alone};
 
 /// No batch is lost or made on the way: on each port, the applied batches and then the waiting ones
 /// are the accepted ones, and they were applied in the order of their numbers, each once. The rows

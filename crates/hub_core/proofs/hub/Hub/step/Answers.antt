@@ -14,7 +14,7 @@ returns-clause-steps g c = λ h s.
     let before = c.args.self.now in
     counted_steps before (record before { entries = before.entries + 1; counts = set before.counts c.args.session c.saturating_add-n.result; machine = c.act-body.new.self })
     h c.args.session c.saturating_add-n.result (request_view c.args.request) c.act-body.result
-    s (omega arith) (omega arith) refl refl refl c.saturating_add-n.ensures c.act-body.ensures
+    s (omega arith) (omega arith) refl refl refl c.saturating_add-n.ensures c.act-body.ensures.does
 
 pub returns-clause-limit : goal.returns-clause-limit
 unfolding limit_of

@@ -14,13 +14,13 @@ use Rattle.hub_core.proofs.RowOrders.{put_still}
 use Rattle.hub_core.proofs.Takings.{front_taken, off_taken}
 use Rattle.hub_core.proofs.machine.Machine.apply.Goals as goal
 
-pub returns-in_default-find : goal.returns-in_default-find
-returns-in_default-find g c = λ past h few session.
+pub returns-in_default-find-clause-does : goal.returns-in_default-find-clause-does
+returns-in_default-find-clause-does g c = λ past h few session.
     same_does c.args.self.now _ past session _ _ _ _ (record { table = sym c.in-Some.is; number = refl; ports = refl; views = refl; opened = refl }) (ap body.Refused c.empty.ensures)
     (apply_missing c.args.self.now past session c.args.port c.in-Some.table h c.in-Some.is (omega arith) (c.find.ensures.missing c.in_default-find.is))
 
-pub returns-in_default-front : goal.returns-in_default-front
-returns-in_default-front g c = λ past h few session.
+pub returns-in_default-front-clause-does : goal.returns-in_default-front-clause-does
+returns-in_default-front-clause-does g c = λ past h few session.
     same_does c.args.self.now _ past session _ _ _ _ (record { table = sym c.in-Some.is; number = refl; ports = refl; views = refl; opened = refl }) (ap body.Refused c.empty-in_default-front.ensures)
     (apply_empty c.args.self.now past session c.args.port c.in-Some-find.place c.in-Some.table h c.in-Some.is (omega arith)
     c.in-Some-find.ensures.within c.in-Some-find.ensures.found
@@ -37,20 +37,20 @@ invariant_of-self-2 g c =
           (subst (λ s. AreTaken s (taken_off m.ports.live place)) same off);
     }
 
-pub returns-then-port-made : goal.returns-then-port-made
-returns-then-port-made g c = λ past h few session.
+pub returns-then-port-made-clause-does : goal.returns-then-port-made-clause-does
+returns-then-port-made-clause-does g c = λ past h few session.
     same_does c.args.self.now _ past session _ _ _ _ (record { table = sym c.in-Some.is; number = refl; ports = refl; views = refl; opened = refl }) (ap body.Refused c.no_port.ensures)
     (apply_no_port c.args.self.now past session c.args.port c.in-Some.table h c.in-Some.is (omega arith))
 
-pub returns-in_default-with_capacity : goal.returns-in_default-with_capacity
-returns-in_default-with_capacity g c = λ past h few session.
+pub returns-in_default-with_capacity-clause-does : goal.returns-in_default-with_capacity-clause-does
+returns-in_default-with_capacity-clause-does g c = λ past h few session.
     same_does c.args.self.now _ past session _ _ _ _ (record { table = sym c.in-Some.is; number = refl; ports = refl; views = refl; opened = refl }) (ap body.Refused c.memory.ensures)
     (apply_wants c.args.self.now past session c.args.port c.in-Some-find.place c.in-Some.table c.in-Some-front.batch.now h c.in-Some.is
     c.in-Some-find.ensures.within c.in-Some-find.ensures.found
     (ap (λ q. slice_get q.waiting 0) (sym c.queue-queue.ensures) ∙ sym c.front.ensures ∙ ap option_copied c.in-Some-front.is))
 
-pub returns-in_default-prepare : goal.returns-in_default-prepare
-returns-in_default-prepare g c = λ past h few session.
+pub returns-in_default-prepare-clause-does : goal.returns-in_default-prepare-clause-does
+returns-in_default-prepare-clause-does g c = λ past h few session.
     still_does c.args.self.now _ past session _ _ _ _ c.in-Some.table c.prepare.new.self c.in-Some.is c.in_default-prepare.ensures.still
     (record { table = refl; number = refl; ports = refl; views = refl; opened = refl }) (ap body.Refused c.memory-in_default-prepare.ensures)
     (apply_wants c.args.self.now past session c.args.port c.in-Some-find.place c.in-Some.table c.in-Some-front.batch.now h c.in-Some.is
@@ -66,15 +66,15 @@ prepare-requires g c =
           (ap (λ q. slice_get q.waiting 0) (sym c.queue-queue.ensures) ∙ sym c.front.ensures ∙ ap option_copied c.in-Some-front.is));
     }
 
-pub returns : goal.returns
-returns g c = λ past h few session.
+pub returns-clause-does : goal.returns-clause-does
+returns-clause-does g c = λ past h few session.
     let m = c.args.self.now in
     let place = c.in-Some-find.place in
     let table = c.apply.new.self in
     let ws = c.refresh_views.new.views.items in
     let lost = c.refresh_views.new.lost.items in
     let all : lost ≡ losses m.views.items ws = c.refresh_views.ensures.lost ∙ ap (λ l. l ++ losses m.views.items ws) c.in-Ok.ensures.items in
-    let told = c.applied.ensures (subst (λ (l : List (ℕ × ℕ)). AreDistinct l) (sym all) (distinct_losses m past ws h)) in
+    let told = c.applied.ensures.told (subst (λ (l : List (ℕ × ℕ)). AreDistinct l) (sym all) (distinct_losses m past ws h)) in
     answer_does past session _ _ _ _ _ told.1
     (apply_does m past session c.args.port place c.in-Some.table table c.saturating_add-self.result c.saturating_add-seq.result c.in-Some-front.batch.now ws told.0
     h few c.in-Some.is c.in-Some-find.ensures.within c.in-Some-find.ensures.found
@@ -90,3 +90,6 @@ returns g c = λ past h few session.
       up = told.3;
     })
     _ (record { table = refl; number = refl; ports = c.take_front.ensures.ports; views = refl; opened = refl }))
+
+pub returns-clause-ends : goal.returns-clause-ends
+returns-clause-ends g c = c.applied.ensures.ends _

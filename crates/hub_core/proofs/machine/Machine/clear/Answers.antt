@@ -11,8 +11,8 @@ use Rattle.hub_core.proofs.PortDeeds.{port_stop, table_made, port_pass, may_put,
 use Rattle.hub_core.proofs.Refusing.{err_body}
 use Rattle.hub_core.proofs.machine.Machine.clear.Goals as goal
 
-pub returns : goal.returns
-returns c = λ past h few session.
+pub returns-clause-does : goal.returns-clause-does
+returns-clause-does c = λ past h few session.
     let m = c.args.self.now in
     let t = c.in_ok-_table._table.now in
     let port = c.args.port in
@@ -23,10 +23,10 @@ returns c = λ past h few session.
     let number = (port_at m.ports.live c.in_ok-place.place).number in
     by_plain past session (ask.clear port) _ _ _ _ plain
     (at_number_alone past session port number (ask.clear port) _ _ c.in_ok-place.ensures.number
-    (c.queue_batch.ensures past h few c.in_ok-place.ensures.open session (ask.clear port) asked (may_put past (ask.clear port) number (λ answer. refl))))
+    (c.queue_batch.ensures.does past h few c.in_ok-place.ensures.open session (ask.clear port) asked (may_put past (ask.clear port) number (λ answer. refl))))
 
-pub returns-in_err-place : goal.returns-in_err-place
-returns-in_err-place c = λ past h few session.
+pub returns-in_err-place-clause-does : goal.returns-in_err-place-clause-does
+returns-in_err-place-clause-does c = λ past h few session.
     let port = c.args.port in
     let request = ask.clear port in
     answer_does past session request _ _ _ _ (err_body _ _ c.from_residual-in_err-place.ensures)

@@ -19,14 +19,14 @@ invariant_of-self c =
           (closed_taken (schema_in m.table) m.ports.live c.in_ok-place.place c.in_ok-place.ensures.within m.taken);
     }
 
-pub returns : goal.returns
-returns c = λ past h few session.
+pub returns-clause-does : goal.returns-clause-does
+returns-clause-does c = λ past h few session.
     close_done c.args.self.now past session c.args.port c.in_ok-place.place c.in_ok-_table._table.now h c.in_ok-_table.ensures.ok
     c.in_ok-place.ensures.within c.in_ok-place.ensures.number (c.in_ok-place.ensures.ok past h) _
     (record { table = refl; number = refl; ports = c.close.ensures; views = refl; opened = refl })
 
-pub returns-in_err-place : goal.returns-in_err-place
-returns-in_err-place c = λ past h few session.
+pub returns-in_err-place-clause-does : goal.returns-in_err-place-clause-does
+returns-in_err-place-clause-does c = λ past h few session.
     let port = c.args.port in
     let request = ask.close_port port in
     answer_does past session request _ _ _ _ (err_body _ _ c.from_residual-in_err-place.ensures)

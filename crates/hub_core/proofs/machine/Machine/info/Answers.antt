@@ -3,8 +3,8 @@ use Rattle.hub_spec.specs.Answers.{column_words, index_name, limit_in}
 use Rattle.hub_core.proofs.PortDeeds.{info_does, info_wants}
 use Rattle.hub_core.proofs.machine.Machine.info.Goals as goal
 
-pub returns : goal.returns
-returns c = λ past h few session.
+pub returns-clause-does : goal.returns-clause-does
+returns-clause-does c = λ past h few session.
     let t = c.in_ok-table.table.now in
     let schema = c.schema-schema.ensures in
     info_does c.args.self.now past session t c.in-Ok.columns c.in-Ok-index_name.index c.limit_of.result c.size.result c.batches_waiting.result
@@ -15,10 +15,10 @@ returns c = λ past h few session.
     c.size.ensures.size
     c.batches_waiting.ensures.batches
 
-pub returns-in_default : goal.returns-in_default
-returns-in_default c = λ past h few session.
+pub returns-in_default-clause-does : goal.returns-in_default-clause-does
+returns-in_default-clause-does c = λ past h few session.
     rw c.memory.ensures (info_wants c.args.self.now past session c.in_ok-table.table.now h c.in_ok-table.ensures.ok)
 
-pub returns-in_default-index_name : goal.returns-in_default-index_name
-returns-in_default-index_name c = λ past h few session.
+pub returns-in_default-index_name-clause-does : goal.returns-in_default-index_name-clause-does
+returns-in_default-index_name-clause-does c = λ past h few session.
     rw c.memory-in_default-index_name.ensures (info_wants c.args.self.now past session c.in_ok-table.table.now h c.in_ok-table.ensures.ok)

@@ -13,8 +13,8 @@ use Rattle.hub_core.proofs.PortDeeds.{index_stop, not_indexed_by, keys_stop, may
 use Rattle.hub_core.proofs.Refusing.{err_body}
 use Rattle.hub_core.proofs.machine.Machine.remove.Goals as goal
 
-pub returns-in-Ok : goal.returns-in-Ok
-returns-in-Ok c = λ past h few session.
+pub returns-in-Ok-clause-does : goal.returns-in-Ok-clause-does
+returns-in-Ok-clause-does c = λ past h few session.
     let m = c.args.self.now in
     let t = c.in_ok-table.table.now in
     let port = c.args.port in
@@ -28,10 +28,10 @@ returns-in-Ok c = λ past h few session.
     let number = (port_at m.ports.live c.in_ok-place.place).number in
     by_plain past session request _ _ _ _ plain
     (at_number_alone past session port number request _ _ c.in_ok-place.ensures.number
-    (c.queue_batch.ensures past h few c.in_ok-place.ensures.open session request asked (may_put past request number (λ answer. refl))))
+    (c.queue_batch.ensures.does past h few c.in_ok-place.ensures.open session request asked (may_put past request number (λ answer. refl))))
 
-pub returns-in_err-place : goal.returns-in_err-place
-returns-in_err-place c = λ past h few session.
+pub returns-in_err-place-clause-does : goal.returns-in_err-place-clause-does
+returns-in_err-place-clause-does c = λ past h few session.
     let m = c.args.self.now in
     let port = c.args.port in
     let request = ask.remove port (raw_view c.args.keys) in
@@ -39,8 +39,8 @@ returns-in_err-place c = λ past h few session.
     (port_stop m past session request port (without_index past ∷ bad_batch past request ∷ full_port past port ∷ []) (plain_in past session request) (queued past port)
     c.in_ok-table.table.now _ h c.in_ok-table.ensures.ok refl (c.in_err-place.ensures.err past h) c.in_err-place.ensures.other)
 
-pub returns-in_default : goal.returns-in_default
-returns-in_default c = λ past h few session.
+pub returns-in_default-clause-does : goal.returns-in_default-clause-does
+returns-in_default-clause-does c = λ past h few session.
     let m = c.args.self.now in
     let t = c.in_ok-table.table.now in
     let port = c.args.port in
@@ -50,8 +50,8 @@ returns-in_default c = λ past h few session.
     t h c.in_ok-table.ensures.ok refl (c.in_ok-place.ensures.ok past h)
     (ap is_indexed (ap (λ s. s.keeping) (sym c.schema.ensures) ∙ sym c.keeping.ensures.keeping) ∙ not_indexed_by c.keeping.result c.in_default.not-Indexed))
 
-pub returns : goal.returns
-returns c = λ past h few session.
+pub returns-clause-does : goal.returns-clause-does
+returns-clause-does c = λ past h few session.
     let m = c.args.self.now in
     let t = c.in_ok-table.table.now in
     let port = c.args.port in

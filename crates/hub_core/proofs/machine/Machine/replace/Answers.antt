@@ -13,8 +13,8 @@ use Rattle.hub_core.proofs.PortDeeds.{read_asks, read_stop, rows_plain, may_put_
 use Rattle.hub_core.proofs.Refusing.{err_body}
 use Rattle.hub_core.proofs.machine.Machine.replace.Goals as goal
 
-pub returns-in-Ok : goal.returns-in-Ok
-returns-in-Ok g c = λ past h few session.
+pub returns-in-Ok-clause-does : goal.returns-in-Ok-clause-does
+returns-in-Ok-clause-does g c = λ past h few session.
     let m = c.args.self.now in
     let t = c.in_ok-table.table.now in
     let port = c.args.port in
@@ -26,10 +26,10 @@ returns-in-Ok g c = λ past h few session.
     let number = (port_at m.ports.live c.in_ok-place.place).number in
     by_plain past session request _ _ _ _ plain
     (at_number past session port number request _ _ (batch.Replace c.in-Ok.patches) c.in_ok-place.ensures.number
-    (c.queue_rows.ensures past h few c.in_ok-place.ensures.open session request asked (may_put_rows past request number (batch.Replace c.in-Ok.patches) (λ answer. refl))))
+    (c.queue_rows.ensures.does past h few c.in_ok-place.ensures.open session request asked (may_put_rows past request number (batch.Replace c.in-Ok.patches) (λ answer. refl))))
 
-pub returns-in_err-place : goal.returns-in_err-place
-returns-in_err-place g c = λ past h few session.
+pub returns-in_err-place-clause-does : goal.returns-in_err-place-clause-does
+returns-in_err-place-clause-does g c = λ past h few session.
     let m = c.args.self.now in
     let port = c.args.port in
     let request = ask.replace port (raw_view c.args.rows) in
@@ -37,8 +37,8 @@ returns-in_err-place g c = λ past h few session.
     (port_stop m past session request port (bad_batch past request ∷ full_port past port ∷ full_table past request ∷ []) (plain_in past session request) (queued past port)
     c.in_ok-table.table.now _ h c.in_ok-table.ensures.ok refl (c.in_err-place.ensures.err past h) c.in_err-place.ensures.other)
 
-pub returns : goal.returns
-returns g c = λ past h few session.
+pub returns-clause-does : goal.returns-clause-does
+returns-clause-does g c = λ past h few session.
     let m = c.args.self.now in
     let t = c.in_ok-table.table.now in
     let port = c.args.port in
