@@ -1,7 +1,9 @@
--- When an end answers that it failed: only where its count of faults rose in that very call.
-use Rattle.std.specs.Prelude.{◌≡◌, ℕ, ◌+◌, ◌-◌, ◌^◌, ◌≤◌, min, OnOk, OnErr, IsErrOf, Result}
+-- How the failures of an end are counted, and how they show in what a call answers.
+use Rattle.std.specs.Prelude.{◌≡◌, ℕ, ◌+◌, ◌-◌, ◌^◌, ◌≤◌, min, Bool, true, false, Result, Ok, Err}
+use Rattle.io_ends.specs.declared.line.LineFault.{LineFault}
+use Rattle.io_ends.specs.declared.line.LineFault.TheVariants as line
 use Rattle.io_ends.specs.declared.sink.SinkFault.{SinkFault}
-use Rattle.io_ends.specs.declared.sink.SinkFault.TheVariants.{Failed}
+use Rattle.io_ends.specs.declared.sink.SinkFault.TheVariants as sink
 
 -- the next value of a counter, which stands still at the last value of its type
 abbrev pub one_more : ℕ → ℕ
@@ -11,14 +13,25 @@ one_more n = min (n + 1) (2 ^ 64 - 1)
 abbrev pub Rose : ℕ → ℕ → Type 0
 Rose before now = one_more before ≤ now
 
--- the count never falls, a call that failed raised it, and one that went well left it
-pub record HasCause {T E : Type 0} (before now : ℕ) (result : Result T E) : Type 0 where
-  pub later : before ≤ now
-  pub failed : OnErr result (Rose before now)
-  pub kept : OnOk result (now ≡ before)
+-- the count rose where the outside failed, and else it is as it was
+abbrev pub RoseIf : Bool → ℕ → ℕ → Type 0
+RoseIf true before now = Rose before now
+RoseIf false before now = now ≡ before
 
--- the same of a sink, whose want of memory is no failure of the outside
-pub record HasSinkCause {T : Type 0} (before now : ℕ) (result : Result T SinkFault) : Type 0 where
+-- over a call the count never fell, and it rose just where the call tells that the outside failed
+pub record Counts (failed : Bool) (before now : ℕ) : Type 0 where
   pub later : before ≤ now
-  pub failed : IsErrOf result Failed → Rose before now
-  pub kept : OnOk result (now ≡ before)
+  pub rose : RoseIf failed before now
+
+-- whether a call of a sink tells that the outside failed: its want of memory is no such failure
+abbrev pub is_sink_fault : {T : Type 0} → Result T SinkFault → Bool
+is_sink_fault (Ok answer) = false
+is_sink_fault (Err sink.Failed) = true
+is_sink_fault (Err sink.Memory) = false
+
+-- whether a call of the line reader tells that the source failed
+abbrev pub is_read_fault : {T : Type 0} → Result T LineFault → Bool
+is_read_fault (Ok answer) = false
+is_read_fault (Err line.Read) = true
+is_read_fault (Err line.TooMany) = false
+is_read_fault (Err line.Memory) = false

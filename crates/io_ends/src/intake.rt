@@ -1,6 +1,6 @@
-ghost use Rattle.std.specs.Prelude.{◌≡◌, ℕ, ◌+◌, ◌-◌, ◌^◌, ◌<◌, ◌≤◌, max, true, false, [], ◌++◌, length, take, vec_len, slice_index, MatchOption, IfOk, IfErr, OnOk, OnErr, IsErrOf};
+ghost use Rattle.std.specs.Prelude.{◌≡◌, ℕ, ◌+◌, ◌-◌, ◌^◌, ◌<◌, ◌≤◌, max, true, false, [], ◌++◌, length, take, vec_len, slice_index, MatchOption, IfOk, IfErr, OnOk, OnErr, is_err};
 ghost use Rattle.std.specs.Io.KnownBytes.{IsAtEnd, ReadConsumes};
-ghost use Rattle.io_ends.specs.Causes.{HasCause, Rose};
+ghost use Rattle.io_ends.specs.Causes.{Counts, is_read_fault};
 ghost use Rattle.io_ends.specs.Lines.{NoEnd, has_end};
 ghost use Rattle.io_ends.specs.Reading.{Came, Gives, LeavesNone, IsWithin};
 
@@ -47,7 +47,7 @@ fn read_front<S: Source>(
     requires room { want ≤ length chunk.old }
     ensures bound { IfOk result (λ given. given ≤ want) }
     ensures bytes { ReadConsumes (S.left source.old) (S.left source.new) result chunk.new }
-    ensures cause { HasCause (S.faults source.old) (S.faults source.new) result }
+    ensures count { Counts (is_err result) (S.faults source.old) (S.faults source.new) }
 {
     source.read(&mut chunk[..want])
 }
@@ -108,8 +108,7 @@ impl Intake {
             (λ came. (held self.new ≡ came) × OnErr result (take (2 ^ 30 - self.old.given) came ≡ [])) }
         ensures more { IfOk result (λ more. Refilled more (held self.new) self.new.ended (S.left source.new)) }
         ensures within { IsWithin result self.new.given }
-        ensures later { S.faults source.old ≤ S.faults source.new }
-        ensures cause { IsErrOf result LineFault.Read → Rose (S.faults source.old) (S.faults source.new) }
+        ensures count { Counts (is_read_fault result) (S.faults source.old) (S.faults source.new) }
     {
         let want = self.want();
         let given = read_front(source, &mut self.chunk, want)?;
@@ -139,8 +138,7 @@ impl Intake {
             (λ came. LeavesNone fault (held self.old) self.old.given came)) }
         ensures idle { has_end (held self.old) ≡ true → source.new ≡ source.old }
         ensures within { IsWithin result self.new.given }
-        ensures later { S.faults source.old ≤ S.faults source.new }
-        ensures cause { IsErrOf result LineFault.Read → Rose (S.faults source.old) (S.faults source.new) }
+        ensures count { Counts (is_read_fault result) (S.faults source.old) (S.faults source.new) }
     {
         let mut front = Partial::new(alloc);
         'parts: loop {

@@ -1,6 +1,8 @@
 use crate::source::SourceFailed;
 use plain_data::Bytes;
 use std::alloc::AllocError;
+use std::error::Error;
+use std::fmt;
 
 /// What the line reader gives.
 #[derive(Debug, Drop)]
@@ -23,6 +25,18 @@ pub enum LineFault {
     /// Memory was wanted and not given.
     Memory,
 }
+
+impl fmt::Display for LineFault {
+    fn fmt<W: fmt::Write>(&self, f: &mut fmt::Formatter<W>) -> fmt::Result {
+        match self {
+            LineFault::Read => f.write_str("reading failed"),
+            LineFault::TooMany => f.write_str("more than 2^30 bytes were given"),
+            LineFault::Memory => f.write_str("memory was wanted for a line"),
+        }
+    }
+}
+
+impl Error for LineFault {}
 
 impl From<SourceFailed> for LineFault {
     ghost use Rattle.std.specs.Prelude.{◌≡◌};

@@ -1,6 +1,6 @@
 ghost use Rattle.std.specs.Prelude.{◌≡◌, ◌<◌, ◌≤◌, ◌↔◌, [], length, min, IfOk, IsErr, IsErrOf, IsTrue};
 ghost use Rattle.std.specs.Io.KnownBytes.{Keeps, WriteAppends};
-ghost use Rattle.io_ends.specs.Causes.{HasSinkCause, one_more};
+ghost use Rattle.io_ends.specs.Causes.{Counts, is_sink_fault, one_more};
 ghost use Rattle.io_ends.specs.Memory.{is_to_fail, faults_after};
 
 use crate::calls::{Calls, Tally};
@@ -67,10 +67,10 @@ impl Sink for MemSink {
         ensures bound { IfOk result (λ taken. taken ≤ length piece.now) }
         ensures some { IfOk result (λ taken. 0 < length piece.now → 0 < taken) }
         ensures bytes { WriteAppends (Some self.old.taken) (Some self.new.taken) result piece.now }
-        ensures cause { HasSinkCause self.old.faults self.new.faults result }
+        ensures count { Counts (is_sink_fault result) self.old.faults self.new.faults }
 
         // What the form in memory tells beyond the trait.
-        ensures count { IfOk result (λ taken. taken ≡ min self.old.piece (length piece.now)) }
+        ensures taken { IfOk result (λ taken. taken ≡ min self.old.piece (length piece.now)) }
         ensures fails { IsErrOf result SinkFault.Failed ↔ IsTrue (is_to_fail self.old.fails self.new.calls) }
         ensures calls { self.new.calls ≡ one_more self.old.calls }
         ensures counted { self.new.faults ≡ faults_after self.old.fails self.new.calls self.old.faults }
@@ -87,7 +87,7 @@ impl Sink for MemSink {
 
     fn flush(&mut self) -> Result<(), SinkFault>
         ensures bytes { Keeps (Some self.old.taken) (Some self.new.taken) }
-        ensures cause { HasSinkCause self.old.faults self.new.faults result }
+        ensures count { Counts (is_sink_fault result) self.old.faults self.new.faults }
 
         // What the form in memory tells beyond the trait. A flush is a call too.
         ensures fails { IsErr result ↔ IsTrue (is_to_fail self.old.fails self.new.calls) }

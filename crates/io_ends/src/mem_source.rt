@@ -1,7 +1,7 @@
-ghost use Rattle.std.specs.Prelude.{◌≡◌, ◌<◌, ◌↔◌, length, min, IfOk, IsErr, IsTrue};
+ghost use Rattle.std.specs.Prelude.{◌≡◌, ◌<◌, ◌↔◌, length, min, IfOk, IsErr, is_err, IsTrue};
 ghost use Rattle.std.specs.Io.{ReadsAtMost};
 ghost use Rattle.std.specs.Io.KnownBytes.{ReadConsumes};
-ghost use Rattle.io_ends.specs.Causes.{HasCause, one_more};
+ghost use Rattle.io_ends.specs.Causes.{Counts, one_more};
 ghost use Rattle.io_ends.specs.Memory.{is_to_fail, faults_after};
 
 use crate::calls::{Calls, Tally};
@@ -61,10 +61,10 @@ impl Source for MemSource {
         requires { 0 < length piece.old }
         ensures bound { ReadsAtMost result piece.new }
         ensures bytes { ReadConsumes (Some self.old.left) (Some self.new.left) result piece.new }
-        ensures cause { HasCause self.old.faults self.new.faults result }
+        ensures count { Counts (is_err result) self.old.faults self.new.faults }
 
         // What the form in memory tells beyond the trait.
-        ensures count { IfOk result (λ given.
+        ensures given { IfOk result (λ given.
             given ≡ min self.old.piece (min (length piece.old) (length self.old.left))) }
         ensures fails { IsErr result ↔ IsTrue (is_to_fail self.old.fails self.new.calls) }
         ensures calls { self.new.calls ≡ one_more self.old.calls }

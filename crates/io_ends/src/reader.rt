@@ -1,6 +1,6 @@
-ghost use Rattle.std.specs.Prelude.{◌≡◌, ◌≤◌, ◌↔◌, true, false, [], ◌++◌, IfOk, IfErr, OnOk, IsErr, IsErrOf, IsTrue};
+ghost use Rattle.std.specs.Prelude.{◌≡◌, ◌↔◌, true, false, [], ◌++◌, IfOk, IfErr, OnOk, IsErr, IsTrue};
 ghost use Rattle.std.specs.Io.KnownBytes.{IsAtEnd};
-ghost use Rattle.io_ends.specs.Causes.{Rose};
+ghost use Rattle.io_ends.specs.Causes.{Counts, is_read_fault};
 ghost use Rattle.io_ends.specs.Lines.{has_end};
 ghost use Rattle.io_ends.specs.Reading.{Came, Gives, NextOf, LeavesNone, IsWithin, Takes};
 ghost use Rattle.io_ends.specs.Told.{Told};
@@ -89,8 +89,7 @@ impl LineReader {
 
         // When each error comes.
         ensures within { IsWithin result self.new.given }
-        ensures later { S.faults source.old ≤ S.faults source.new }
-        ensures cause { IsErrOf result LineFault.Read → Rose (S.faults source.old) (S.faults source.new) }
+        ensures count { Counts (is_read_fault result) (S.faults source.old) (S.faults source.new) }
 
         ensures longest { self.new.longest ≡ self.old.longest }
         ensures failed { IsTrue self.new.failed ↔ IsErr result }

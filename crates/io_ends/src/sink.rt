@@ -1,15 +1,30 @@
 ghost use Rattle.std.specs.Prelude.{◌≡◌, ℕ, ◌<◌, ◌≤◌, length, take, List, Option, IfOk, OnOk, OnErr};
 ghost use Rattle.std.specs.Io.KnownBytes.{Appends, Keeps, WriteAppends};
-ghost use Rattle.io_ends.specs.Causes.{HasSinkCause};
+ghost use Rattle.io_ends.specs.Causes.{Counts, is_sink_fault};
 
 use std::alloc::AllocError;
+use std::error::Error;
+use std::fmt;
 
-/// Why a call of a sink took nothing: the outside failed, or memory was wanted and not given.
+/// Why a call of a sink took nothing.
 #[derive(Clone, Copy, Debug, Drop, PartialEq, Eq)]
 pub enum SinkFault {
+    /// The outside failed.
     Failed,
+    /// Memory was wanted and not given.
     Memory,
 }
+
+impl fmt::Display for SinkFault {
+    fn fmt<W: fmt::Write>(&self, f: &mut fmt::Formatter<W>) -> fmt::Result {
+        match self {
+            SinkFault::Failed => f.write_str("writing failed"),
+            SinkFault::Memory => f.write_str("memory was wanted for what is written"),
+        }
+    }
+}
+
+impl Error for SinkFault {}
 
 impl From<AllocError> for SinkFault {
     ghost use Rattle.std.specs.Prelude.{◌≡◌};
@@ -37,12 +52,12 @@ pub trait Sink {
         ensures bound { IfOk result (λ taken. taken ≤ length piece.now) }
         ensures some { IfOk result (λ taken. 0 < length piece.now → 0 < taken) }
         ensures bytes { WriteAppends (written self.old) (written self.new) result piece.now }
-        ensures cause { HasSinkCause (faults self.old) (faults self.new) result };
+        ensures count { Counts (is_sink_fault result) (faults self.old) (faults self.new) };
 
     /// Hands on what the sink may still keep back of the bytes taken.
     fn flush(&mut self) -> Result<(), SinkFault>
         ensures bytes { Keeps (written self.old) (written self.new) }
-        ensures cause { HasSinkCause (faults self.old) (faults self.new) result };
+        ensures count { Counts (is_sink_fault result) (faults self.old) (faults self.new) };
 }
 
 /// Writes all of `bytes`. What a write doesn't take is offered again. After a fault a front of the
@@ -51,7 +66,7 @@ pub fn write_whole<K: Sink>(sink: &mut K, bytes: &[u8]) -> Result<(), SinkFault>
     ensures ok { OnOk result (Appends (K.written sink.old) (K.written sink.new) bytes.now) }
     ensures err { OnErr result ((n : ℕ) × (n < length bytes.now)
         × Appends (K.written sink.old) (K.written sink.new) (take n bytes.now)) }
-    ensures cause { HasSinkCause (K.faults sink.old) (K.faults sink.new) result }
+    ensures count { Counts (is_sink_fault result) (K.faults sink.old) (K.faults sink.new) }
 {
     let mut taken = 0;
     'pieces: while taken < bytes.len() {

@@ -1,11 +1,22 @@
-ghost use Rattle.std.specs.Prelude.{ℕ, ◌<◌, length, List, Option};
+ghost use Rattle.std.specs.Prelude.{ℕ, ◌<◌, length, List, Option, is_err};
 ghost use Rattle.std.specs.Io.{ReadsAtMost};
 ghost use Rattle.std.specs.Io.KnownBytes.{ReadConsumes};
-ghost use Rattle.io_ends.specs.Causes.{HasCause};
+ghost use Rattle.io_ends.specs.Causes.{Counts};
+
+use std::error::Error;
+use std::fmt;
 
 /// The outside failed to give bytes.
 #[derive(Clone, Copy, Debug, Drop, PartialEq, Eq)]
 pub struct SourceFailed;
+
+impl fmt::Display for SourceFailed {
+    fn fmt<W: fmt::Write>(&self, f: &mut fmt::Formatter<W>) -> fmt::Result {
+        f.write_str("reading failed")
+    }
+}
+
+impl Error for SourceFailed {}
 
 /// Where bytes come from.
 ///
@@ -21,5 +32,5 @@ pub trait Source {
         requires { 0 < length piece.old }
         ensures bound { ReadsAtMost result piece.new }
         ensures bytes { ReadConsumes (left self.old) (left self.new) result piece.new }
-        ensures cause { HasCause (faults self.old) (faults self.new) result };
+        ensures count { Counts (is_err result) (faults self.old) (faults self.new) };
 }

@@ -4,9 +4,12 @@ use Rattle.std.proofs.KnownBytes.{Consumes-nil, Appends-nil}
 use Rattle.io_ends.specs.Lines.{lines}
 use Rattle.std.specs.Bool.{◌==◌}
 use Rattle.std.specs.List.{onto_first}
+use Rattle.hub_spec.specs.Histories.{Entry}
 use Rattle.session_core.proofs.HistoryLemmas.{tell_histories}
-use Rattle.session_core.specs.Answers.{PartlyAnswers}
-use Rattle.session_core.specs.Outcome.{Moved, Outcome}
+use Rattle.session_core.proofs.UnderwayLemmas.{first_answered, so_far}
+use Rattle.session_core.specs.Faults.{is_read_fault, is_write_fault}
+use Rattle.session_core.specs.Outcome.{FirstAnswered, LinesSoFar, Moved, Outcome}
+use Rattle.session_core.specs.Script.{AnswersFirstLines}
 use Rattle.session_core.specs.declared.script.ScriptEnd.{ScriptEnd}
 use Rattle.session_core.specs.declared.script.ScriptEnd.TheVariants.{Done, Memory, TooLong, ReadFault, WriteFault}
 use Rattle.pv_program.specs.Statuses.{StatusSays, code_of}
@@ -21,47 +24,53 @@ length-lines : (bytes : List ℕ) → length (lines bytes) ≤ length bytes
 length-lines [] = omega arith
 length-lines (b ∷ bytes) = let rest = more_lines (b == 10) b (lines bytes) (length bytes) (length-lines bytes) in omega arith
 
-pub status_says : (end : ScriptEnd) (left : Option (List ℕ)) (given out : List ℕ) → Outcome end left given out → StatusSays (code_of end) left given out
-status_says (Done count) left given out h = record {
-  answered = λ e. (h.0, h.1);
-  told = λ e. tell_histories (lines given) out (let few = length-lines given in let within : length given ≤ 2 ^ 30 = h.3 in omega arith) h.1;
+-- the first of the lines so far are answered, whatever the caller stands for
+first_lines : (left : Option (List ℕ)) (Stands : List Entry → Type 0) (given out : List ℕ) → LinesSoFar left given (FirstAnswered Stands out)
+    → LinesSoFar left given (λ ls. AnswersFirstLines ls out)
+first_lines left Stands given out h = so_far left given (FirstAnswered Stands out) (λ ls. AnswersFirstLines ls out) (λ ls first. first.0) h
+
+pub status_says : (end : ScriptEnd) (left : Option (List ℕ)) (Stands : List Entry → Type 0) (given out : List ℕ) → Outcome end left Stands given out
+    → StatusSays (code_of end) left given out
+status_says (Done count) left Stands given out h = record {
+  answered = λ e. (h.0, h.1.0);
+  told = λ e. (tell_histories (lines given) out (let few = length-lines given in let within : length given ≤ 2 ^ 30 = h.3 in omega arith) h.1.0).0;
   partly = λ e. elim e [ inl i ↦ absurd (omega arith) | inr i ↦ absurd (omega arith) ];
   other_words = λ e. absurd (omega arith);
   too_many = (λ e. omega arith, λ more. let within = h.3 in omega arith);
   up_to_limit = λ e. absurd (omega arith);
   read = λ e. absurd (omega arith);
 }
-status_says Memory left given out h = record {
+status_says Memory left Stands given out h = record {
   answered = λ e. absurd (omega arith);
   told = λ e. absurd (omega arith);
-  partly = λ e. h.0;
+  partly = λ e. first_lines left Stands given out h.0;
   other_words = λ e. absurd (omega arith);
   too_many = (λ e. omega arith, λ more. let within = h.1 in omega arith);
   up_to_limit = λ e. absurd (omega arith);
   read = λ e. absurd (omega arith);
 }
-status_says TooLong left given out h = record {
+status_says TooLong left Stands given out h = record {
   answered = λ e. absurd (omega arith);
   told = λ e. absurd (omega arith);
   partly = λ e. elim e [ inl i ↦ absurd (omega arith) | inr i ↦ absurd (omega arith) ];
   other_words = λ e. absurd (omega arith);
   too_many = (λ e. let size = h.1 in omega arith, λ more. refl);
-  up_to_limit = λ e. h.0;
+  up_to_limit = λ e. h.0.0;
   read = λ e. absurd (omega arith);
 }
-status_says ReadFault left given out h = record {
+status_says ReadFault left Stands given out h = record {
   answered = λ e. absurd (omega arith);
   told = λ e. absurd (omega arith);
   partly = λ e. elim e [ inl i ↦ absurd (omega arith) | inr i ↦ absurd (omega arith) ];
   other_words = λ e. absurd (omega arith);
   too_many = (λ e. omega arith, λ more. let within = h.1 in omega arith);
   up_to_limit = λ e. absurd (omega arith);
-  read = λ e. h.0;
+  read = λ e. h.0.0;
 }
-status_says WriteFault left given out h = record {
+status_says WriteFault left Stands given out h = record {
   answered = λ e. absurd (omega arith);
   told = λ e. absurd (omega arith);
-  partly = λ e. h.0;
+  partly = λ e. first_lines left Stands given out h.0;
   other_words = λ e. absurd (omega arith);
   too_many = (λ e. omega arith, λ more. let within = h.1 in omega arith);
   up_to_limit = λ e. absurd (omega arith);
@@ -87,23 +96,11 @@ wrong_words left = record {
   read = λ e. absurd (omega arith);
 }
 
--- no line is answered and none is there
-pub none_answered : PartlyAnswers (lines []) []
-none_answered = record {
-  done = [];
-  others = [];
-  replies = [];
-  after = [];
-  part = [];
-  lines_are = refl;
-  written = refl;
-  ran = refl;
-  folds = λ session number. refl;
-  next = refl;
-}
-
+-- nothing was read, and no line is there to be answered
 pub without_memory : (left : Option (List ℕ)) → StatusSays 1 left [] []
-without_memory left = status_says Memory left [] [] (none_answered, omega arith)
+without_memory left =
+    let Any : List Entry → Type 0 = λ h. Unit {0} in
+    status_says Memory left Any [] [] (inl (first_answered Any [] [] [] refl tt [] ([], refl)), omega arith)
 
 pub never_two : (end : ScriptEnd) → code_of end ≡ 2 → ⊥
 never_two (Done count) e = omega arith
@@ -111,3 +108,17 @@ never_two Memory e = omega arith
 never_two TooLong e = omega arith
 never_two ReadFault e = omega arith
 never_two WriteFault e = omega arith
+
+pub shows_read : (end : ScriptEnd) → is_read_fault end ≡ (code_of end == 4)
+shows_read (Done count) = refl
+shows_read Memory = refl
+shows_read TooLong = refl
+shows_read ReadFault = refl
+shows_read WriteFault = refl
+
+pub shows_write : (end : ScriptEnd) → is_write_fault end ≡ (code_of end == 5)
+shows_write (Done count) = refl
+shows_write Memory = refl
+shows_write TooLong = refl
+shows_write ReadFault = refl
+shows_write WriteFault = refl

@@ -1,5 +1,5 @@
-ghost use Rattle.std.specs.Prelude.{◌≡◌, ◌≤◌, ◌↔◌, false, map};
-ghost use Rattle.io_ends.specs.Causes.{Rose};
+ghost use Rattle.std.specs.Prelude.{◌≡◌, ◌≤◌, ◌==◌, ◌↔◌, false, map};
+ghost use Rattle.io_ends.specs.Causes.{Counts};
 ghost use Rattle.session_core.specs.Outcome.{Moved};
 ghost use Rattle.pv_program.specs.Statuses.{StatusSays, code_of};
 ghost use Rattle.pv_program.specs.Words.{is_form};
@@ -37,10 +37,8 @@ pub fn pv_main<S: Source, K: Sink>(
 
     // When each status comes.
     ensures form { (result.code ≡ 2) ↔ (is_form (map (λ word. word.now) words.now) ≡ false) }
-    ensures read { result.code ≡ 4 → Rose (S.faults source.old) (S.faults source.new) }
-    ensures write { result.code ≡ 5 → Rose (K.faults sink.old) (K.faults sink.new) }
-    ensures source_later { S.faults source.old ≤ S.faults source.new }
-    ensures sink_later { K.faults sink.old ≤ K.faults sink.new }
+    ensures read { Counts (result.code == 4) (S.faults source.old) (S.faults source.new) }
+    ensures write { Counts (result.code == 5) (K.faults sink.old) (K.faults sink.new) }
 {
     if !is_script(words) {
         return Status { code: 2 };

@@ -6,7 +6,7 @@ use Rattle.frame_types.specs.Asks.{Ask}
 use Rattle.frame_types.specs.declared.reply.Reply.{Reply}
 use Rattle.hub_spec.specs.Histories.{Entry, IsLegal, answered, followed, told}
 use Rattle.hub_spec.specs.Runs.{Ran}
-use Rattle.session_core.specs.Answers.{asked_of, reply_lines, script_limit}
+use Rattle.session_core.specs.Script.{asked_of, reply_lines, script_limit}
 use Rattle.session_core.specs.Histories.{requests_of, replies_of, AnswersTellHistories}
 
 -- a history that isn't full takes the step
@@ -39,10 +39,13 @@ grew limit (q ∷ asked) (r ∷ replies) h after ran small legal =
 pub tell_histories : AnswersTellHistories
 tell_histories lines out small answers =
     let size : length (map asked_of lines) ≡ length lines = length-map lines asked_of in
-    let all = grew script_limit (map asked_of lines) answers.replies [] answers.after answers.ran (omega arith) tt in record {
-      history = answers.after;
-      legal = all.legal;
-      requests = all.requests;
-      written = answers.written ∙ ap reply_lines (sym all.answers);
-      folds = answers.folds;
-    }
+    let all = grew script_limit (map asked_of lines) answers.replies [] answers.after answers.ran (omega arith) tt in (
+      record {
+        history = answers.after;
+        legal = all.legal;
+        requests = all.requests;
+        written = answers.written ∙ ap reply_lines (sym all.answers);
+        folds = answers.folds;
+      },
+      refl,
+    )

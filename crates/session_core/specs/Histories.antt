@@ -5,7 +5,7 @@ use Rattle.frame_types.specs.declared.reply.Reply.{Reply}
 use Rattle.hub_spec.specs.Answered.{Answered}
 use Rattle.hub_spec.specs.Histories.{Entry, IsLegal, answered}
 use Rattle.hub_spec.specs.Laws.{Folds}
-use Rattle.session_core.specs.Answers.{Answers, asked_of, reply_lines, script_limit}
+use Rattle.session_core.specs.Script.{AnswersLines, asked_of, reply_lines, script_limit}
 
 -- the requests of a history, the first one first
 abbrev pub requests_of : List Entry → List (ℕ × Ask)
@@ -26,6 +26,9 @@ pub record TellsHistory (lines : List (List ℕ)) (out : List ℕ) : Type 0 wher
   pub written : out ≡ reply_lines (replies_of (answered script_limit history))
   pub folds : Folds script_limit history
 
--- where bytes answer lines, they are the reply lines of the lines' history
+-- where bytes answer lines, they are the reply lines of the lines' history, which is the one that the
+-- replies tell
 abbrev pub AnswersTellHistories : Type 0
-AnswersTellHistories = (lines : List (List ℕ)) (out : List ℕ) → length lines ≤ script_limit → Answers lines out → TellsHistory lines out
+AnswersTellHistories =
+    (lines : List (List ℕ)) (out : List ℕ) → length lines ≤ script_limit
+    → (answers : AnswersLines lines out) → (tells : TellsHistory lines out) × (tells.history ≡ answers.after)

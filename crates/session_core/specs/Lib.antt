@@ -1,5 +1,5 @@
-pub mod Answers
 pub mod Faults
 pub mod Histories
 pub mod Outcome
-pub mod Running
+pub mod Script
+pub mod Underway

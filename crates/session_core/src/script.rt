@@ -1,17 +1,17 @@
 ghost use Rattle.std.specs.Prelude.{◌≡◌, ◌+◌, ◌^◌, ◌<◌, ◌≤◌, ℕ, true, false, [], List, Option, length, string_bytes, option_map, OnOk, OnErr, IsErrOf, IfOk, IfErr, IfSome};
-ghost use Rattle.std.specs.Io.KnownBytes.{Appends};
-ghost use Rattle.io_ends.specs.Causes.{Rose};
+ghost use Rattle.io_ends.specs.Causes.{Counts};
 ghost use Rattle.frame_types.specs.Asks.{asked_view};
+ghost use Rattle.hub_spec.specs.Callers.{SpeaksForAll};
 ghost use Rattle.hub_spec.specs.Histories.{Entry};
-ghost use Rattle.session_core.specs.Answers.{Answered, PartOf, asked_in, reply_line, script_limit};
-ghost use Rattle.session_core.specs.Faults.{end_of, fault_end};
+ghost use Rattle.session_core.specs.Faults.{end_of, fault_end, has_read_fault, has_write_fault, is_read_fault, is_write_fault};
 ghost use Rattle.session_core.specs.Outcome.{Moved, Outcome};
-ghost use Rattle.session_core.specs.Running.{Runs, counted};
+ghost use Rattle.session_core.specs.Script.{asked_in, reply_line, script_limit};
+ghost use Rattle.session_core.specs.Underway.{IsCaughtUp, IsReplied, IsPartlyReplied, counted};
 
 use cell_core::Memory;
 use frame_json::{read_request, write_reply};
 use frame_types::{Asked, FrameCause, Reply, Request};
-use hub_spec::Caller;
+use hub_spec::{Caller, call_alone};
 use io_ends::{Line, LineFault, LineReader, Sink, SinkFault, Source, write_whole};
 use std::alloc::Global;
 
@@ -92,20 +92,27 @@ pub fn run_script<S: Source, K: Sink, C: Caller>(
     source: &mut S,
     sink: &mut K,
 ) -> ScriptEnd
+    requires alone { SpeaksForAll (C.speaks caller.old) }
     requires stands { C.stands caller.old [] }
     requires limit { C.limit caller.old ≡ script_limit }
 
-    // What was read and written.
+    // What was read and written, and the history that the caller then stands for.
     ensures ran { Moved (S.left source.old) (S.left source.new) (K.written sink.old) (K.written sink.new)
-        (Outcome result (S.left source.new)) }
+        (Outcome result (S.left source.new) (C.stands caller.new)) }
+    ensures limit { C.limit caller.new ≡ C.limit caller.old }
+    ensures speaks { (session : ℕ) → C.speaks caller.new session ≡ C.speaks caller.old session }
 
-    // When each fault comes.
-    ensures source_later { S.faults source.old ≤ S.faults source.new }
-    ensures sink_later { K.faults sink.old ≤ K.faults sink.new }
-    ensures read { result ≡ ScriptEnd.ReadFault → Rose (S.faults source.old) (S.faults source.new) }
-    ensures write { result ≡ ScriptEnd.WriteFault → Rose (K.faults sink.old) (K.faults sink.new) }
+    // Each fault of an end shows, and nothing else does.
+    ensures read { Counts (is_read_fault result) (S.faults source.old) (S.faults source.new) }
+    ensures write { Counts (is_write_fault result) (K.faults sink.old) (K.faults sink.new) }
 {
-    match answer_lines(alloc, caller, source, sink) {
+    end_told(answer_lines(alloc, caller, source, sink))
+}
+
+fn end_told(answered: Result<u64, Fault>) -> ScriptEnd
+    ensures { result ≡ end_of answered }
+{
+    match answered {
         Ok(lines) => ScriptEnd::Done { lines },
         Err(Fault::Memory) => ScriptEnd::Memory,
         Err(Fault::TooLong) => ScriptEnd::TooLong,
@@ -121,14 +128,15 @@ fn answer_lines<S: Source, K: Sink, C: Caller>(
     source: &mut S,
     sink: &mut K,
 ) -> Result<u64, Fault>
+    requires alone { SpeaksForAll (C.speaks caller.old) }
     requires stands { C.stands caller.old [] }
     requires limit { C.limit caller.old ≡ script_limit }
     ensures ran { Moved (S.left source.old) (S.left source.new) (K.written sink.old) (K.written sink.new)
-        (Outcome (end_of result) (S.left source.new)) }
-    ensures source_later { S.faults source.old ≤ S.faults source.new }
-    ensures sink_later { K.faults sink.old ≤ K.faults sink.new }
-    ensures read { IsErrOf result Fault.Read → Rose (S.faults source.old) (S.faults source.new) }
-    ensures write { IsErrOf result Fault.Write → Rose (K.faults sink.old) (K.faults sink.new) }
+        (Outcome (end_of result) (S.left source.new) (C.stands caller.new)) }
+    ensures alone { SpeaksForAll (C.speaks caller.new) }
+    ensures limit { C.limit caller.new ≡ script_limit }
+    ensures read { Counts (has_read_fault result) (S.faults source.old) (S.faults source.new) }
+    ensures write { Counts (has_write_fault result) (K.faults sink.old) (K.faults sink.new) }
 {
     let mut reader = LineReader::make(alloc, LONGEST)?;
     let mut count: u64 = 0;
@@ -153,16 +161,19 @@ fn answer_next<S: Source, K: Sink, C: Caller>(
     requires usable { reader.old.failed ≡ false }
     requires within { reader.old.given ≤ 2 ^ 30 }
     requires longest { reader.old.longest ≡ LONGEST }
+    requires alone { SpeaksForAll (C.speaks caller.old) }
     requires limit { C.limit caller.old ≡ script_limit }
 
     // What was read and written so far, from whatever it began with.
     ensures ok { IfOk result (λ more. (before : Option (List ℕ)) (into : Option (List ℕ)) (count : ℕ)
-        → Runs before (S.left source.old) into (K.written sink.old) reader.old count (C.stands caller.old)
-        → Runs before (S.left source.new) into (K.written sink.new) reader.new (counted more count) (C.stands caller.new)) }
+        → IsCaughtUp before (S.left source.old) into (K.written sink.old) reader.old count (C.stands caller.old)
+        → IsCaughtUp before (S.left source.new) into (K.written sink.new) reader.new (counted more count)
+        (C.stands caller.new)) }
     ensures last { IfOk result (λ more. more ≡ false → reader.new.ended ≡ true) }
     ensures err { IfErr result (λ why. (before : Option (List ℕ)) (into : Option (List ℕ)) (count : ℕ)
-        → Runs before (S.left source.old) into (K.written sink.old) reader.old count (C.stands caller.old)
-        → Moved before (S.left source.new) into (K.written sink.new) (Outcome (fault_end why) (S.left source.new))) }
+        → IsCaughtUp before (S.left source.old) into (K.written sink.old) reader.old count (C.stands caller.old)
+        → Moved before (S.left source.new) into (K.written sink.new)
+        (Outcome (fault_end why) (S.left source.new) (C.stands caller.new))) }
 
     // What the next call needs.
     ensures usable { OnOk result (reader.new.failed ≡ false) }
@@ -170,13 +181,12 @@ fn answer_next<S: Source, K: Sink, C: Caller>(
     ensures takes { IfOk result (λ more. more ≡ true
         → reader.old.given + length reader.new.held < reader.new.given + length reader.old.held) }
     ensures longest { reader.new.longest ≡ LONGEST }
+    ensures alone { SpeaksForAll (C.speaks caller.new) }
     ensures limit { C.limit caller.new ≡ script_limit }
 
-    // When each fault comes.
-    ensures source_later { S.faults source.old ≤ S.faults source.new }
-    ensures sink_later { K.faults sink.old ≤ K.faults sink.new }
-    ensures read { IsErrOf result Fault.Read → Rose (S.faults source.old) (S.faults source.new) }
-    ensures write { IsErrOf result Fault.Write → Rose (K.faults sink.old) (K.faults sink.new) }
+    // Each fault of an end shows.
+    ensures read { Counts (has_read_fault result) (S.faults source.old) (S.faults source.new) }
+    ensures write { Counts (has_write_fault result) (K.faults sink.old) (K.faults sink.new) }
 {
     let line = reader.next(source)?;
     let Some(asked) = asked_by(alloc, line)? else {
@@ -211,18 +221,19 @@ fn answer<K: Sink, C: Caller>(
     asked: Asked,
     sink: &mut K,
 ) -> Result<(), Fault>
-    requires { asked.session ≤ 65 }
-    ensures answered { OnOk result ((h : List Entry) → C.stands caller.old h
-        → Answered (C.limit caller.old) h (asked_view asked) (C.stands caller.new) (K.written sink.old) (K.written sink.new)) }
-    ensures partly { OnErr result ((h : List Entry) → C.stands caller.old h
-        → (part : List ℕ) × Appends (K.written sink.old) (K.written sink.new) part × PartOf (C.limit caller.old) h (asked_view asked) part) }
+    requires session { asked.session ≤ 65 }
+    requires alone { SpeaksForAll (C.speaks caller.old) }
+    ensures replied { OnOk result ((h : List Entry) → C.stands caller.old h → IsReplied (C.limit caller.old) h
+        (asked_view asked) (C.stands caller.new) (K.written sink.old) (K.written sink.new)) }
+    ensures partly { OnErr result ((h : List Entry) → C.stands caller.old h → IsPartlyReplied (C.limit caller.old) h
+        (asked_view asked) (C.stands caller.new) (K.written sink.old) (K.written sink.new)) }
+    ensures alone { SpeaksForAll (C.speaks caller.new) }
     ensures limit { C.limit caller.new ≡ C.limit caller.old }
-    ensures later { K.faults sink.old ≤ K.faults sink.new }
-    ensures write { IsErrOf result Fault.Write → Rose (K.faults sink.old) (K.faults sink.new) }
+    ensures write { Counts (has_write_fault result) (K.faults sink.old) (K.faults sink.new) }
     ensures no_read { IsErrOf result Fault.Read → ⊥ }
     ensures no_many { IsErrOf result Fault.TooLong → ⊥ }
 {
-    let reply = caller.call(asked.session, asked.request);
+    let reply = call_alone(caller, asked.session, asked.request);
     let line = rendered(alloc, &reply)?;
     write_whole(sink, line.as_bytes())?;
     Ok(())

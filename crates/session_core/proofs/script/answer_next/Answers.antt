@@ -1,9 +1,9 @@
 use Rattle.std.proofs.Common.{◌≡◌, ℕ, ◌+◌, ◌^◌, ◌≤◌, [], ◌∷◌, ◌++◌, Some, None, Err, option_map, sym, ap, ◌∙◌, subst, length-append, arith}
 use Rattle.std.proofs.lemmas.Result.{err_from_is_err_and}
-use Rattle.std.proofs.KnownBytes.{Appends-trans}
 use Rattle.frame_types.specs.Asks.{Ask, asked_view}
-use Rattle.session_core.specs.Answers.{Answered, asked_in, reply_lines, script_limit, PartOf}
-use Rattle.session_core.proofs.RunningLemmas.{Reads, still_open, fails, reads_line, reads_end, lost, stops, stopped, answers}
+use Rattle.session_core.specs.Script.{asked_in, reply_lines, script_limit}
+use Rattle.session_core.specs.Underway.{IsReplied, IsPartlyReplied}
+use Rattle.session_core.proofs.UnderwayLemmas.{Reads, still_open, fails, reads_line, reads_end, lost, stops, stopped, answers}
 use Rattle.session_core.proofs.script.answer_next.Goals as goal
 
 pub returns-in_err-line-clause-err : goal.returns-in_err-line-clause-err
@@ -71,17 +71,17 @@ returns-in_err-answer-clause-err g c =
     (λ before into count runs.
     let line = reads_line before (g.S.Source.left c.args.source.now) (g.S.Source.left c.next.new.source) into (g.K.Sink.written c.args.sink.now) c.args.reader.now c.next.new.self
     (g.C.Caller.stands c.args.caller.now) runs.0 c.in_ok-line.ensures.line.0 runs.1 runs.2 runs.3 c.in_ok-line.line (asked_view c.in-Some.asked) c.requires.longest runs.4 read some in
-    let left = c.in_err-answer.ensures.partly runs.3 runs.4.stands in
-    let part_of : PartOf script_limit runs.3 (asked_view c.in-Some.asked) left.0 = subst (λ (n : ℕ). PartOf n runs.3 (asked_view c.in-Some.asked) left.0) c.requires.limit left.2 in
-    let next = subst (λ (q : ℕ × Ask). PartOf script_limit runs.3 q left.0) (sym line.1) part_of in (
+    let P : ℕ → Type 0 = λ n. IsPartlyReplied n runs.3 (asked_view c.in-Some.asked) (g.C.Caller.stands c.answer.new.caller) (g.K.Sink.written c.args.sink.now) (g.K.Sink.written c.answer.new.sink) in
+    let here = subst P c.requires.limit (c.in_err-answer.ensures.partly runs.3 runs.4.stands) in
+    let Q : ℕ × Ask → Type 0 = λ q. IsPartlyReplied script_limit runs.3 q (g.C.Caller.stands c.answer.new.caller) (g.K.Sink.written c.args.sink.now) (g.K.Sink.written c.answer.new.sink) in
+    let stop = stops before (g.S.Source.left c.next.new.source) into (g.K.Sink.written c.args.sink.now) (g.K.Sink.written c.answer.new.sink) c.next.new.self (g.C.Caller.stands c.args.caller.now)
+    (g.C.Caller.stands c.answer.new.caller) (runs.0 ++ c.in_ok-line.ensures.line.0) runs.1 line.0 runs.2 runs.3 line.2 (subst Q (sym line.1) here) in (
       runs.0 ++ c.in_ok-line.ensures.line.0,
-      reply_lines runs.2 ++ left.0,
+      reply_lines runs.2 ++ stop.0,
       line.2.consumed,
-      Appends-trans into (g.K.Sink.written c.args.sink.now) (g.K.Sink.written c.answer.new.sink) (reply_lines runs.2) left.0 runs.4.appended left.1,
-      stopped c.in_err-answer.field-0.0 (g.S.Source.left c.next.new.source) (runs.0 ++ c.in_ok-line.ensures.line.0) (reply_lines runs.2 ++ left.0)
-          (λ e. c.in_err-answer.ensures.no_read (ap Err e)) (λ e. c.in_err-answer.ensures.no_many (ap Err e))
-          (stops before (g.S.Source.left c.next.new.source) into (g.K.Sink.written c.args.sink.now) (g.K.Sink.written c.answer.new.sink) c.next.new.self (g.C.Caller.stands c.args.caller.now)
-          (runs.0 ++ c.in_ok-line.ensures.line.0) runs.1 line.0 runs.2 runs.3 left.0 line.2 left.1 next)
+      stop.1,
+      stopped c.in_err-answer.field-0.0 (g.S.Source.left c.next.new.source) (g.C.Caller.stands c.answer.new.caller) (runs.0 ++ c.in_ok-line.ensures.line.0) (reply_lines runs.2 ++ stop.0)
+          (λ e. c.in_err-answer.ensures.no_read (ap Err e)) (λ e. c.in_err-answer.ensures.no_many (ap Err e)) stop.2
           (let within : c.next.new.self.given ≤ 2 ^ 30 = c.in_ok-line.ensures.within in let given = line.2.given in omega arith),
     ))
 
@@ -99,14 +99,14 @@ returns-clause-ok g c =
     λ before into count runs.
     let line = reads_line before (g.S.Source.left c.args.source.now) (g.S.Source.left c.next.new.source) into (g.K.Sink.written c.args.sink.now) c.args.reader.now c.next.new.self
     (g.C.Caller.stands c.args.caller.now) runs.0 c.in_ok-line.ensures.line.0 runs.1 runs.2 runs.3 c.in_ok-line.line (asked_view c.in-Some.asked) c.requires.longest runs.4 read some in
-    let done = c.in_ok-answer.ensures.answered runs.3 runs.4.stands in
-    let P : ℕ → Type 0 = λ n. Answered n runs.3 (asked_view c.in-Some.asked) (g.C.Caller.stands c.answer.new.caller) (g.K.Sink.written c.args.sink.now) (g.K.Sink.written c.answer.new.sink) in
+    let done = c.in_ok-answer.ensures.replied runs.3 runs.4.stands in
+    let P : ℕ → Type 0 = λ n. IsReplied n runs.3 (asked_view c.in-Some.asked) (g.C.Caller.stands c.answer.new.caller) (g.K.Sink.written c.args.sink.now) (g.K.Sink.written c.answer.new.sink) in
     let here = subst P c.requires.limit done in
-    let Q : ℕ × Ask → Type 0 = λ q. Answered script_limit runs.3 q (g.C.Caller.stands c.answer.new.caller) (g.K.Sink.written c.args.sink.now) (g.K.Sink.written c.answer.new.sink) in
+    let Q : ℕ × Ask → Type 0 = λ q. IsReplied script_limit runs.3 q (g.C.Caller.stands c.answer.new.caller) (g.K.Sink.written c.args.sink.now) (g.K.Sink.written c.answer.new.sink) in
     let answered = subst Q (sym line.1) here in (
       runs.0 ++ c.in_ok-line.ensures.line.0,
       runs.1 ++ line.0 ∷ [],
-      runs.2 ++ answered.reply ∷ [],
+      runs.2 ++ answered.0 ∷ [],
       _,
       answers before (g.S.Source.left c.next.new.source) into (g.K.Sink.written c.args.sink.now) (g.K.Sink.written c.answer.new.sink) c.next.new.self (g.C.Caller.stands c.args.caller.now)
           (g.C.Caller.stands c.answer.new.caller) (runs.0 ++ c.in_ok-line.ensures.line.0) runs.1 line.0 runs.2 runs.3 line.2 answered,

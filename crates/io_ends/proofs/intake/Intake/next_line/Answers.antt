@@ -34,6 +34,6 @@ parts-preserved g c =
       midway = (_, _, comes (grown c.parts.invariant.midway.2 part) _ _ _ more.0 more.1 more.2 more.3.0);
       open_yet = some.1;
       within = c.in_ok-refill.ensures.within;
-      later = omega (arith, c.parts.invariant.later, c.in_ok-refill.ensures.later);
+      count = c.in_ok-refill.ensures.count.rose ∙ c.parts.invariant.count;
       idle = λ h. never (held c.args.self.now) (held c.parts.self) part.part h (c.parts.invariant.idle h).1 part.cut.0 part.no_end;
     }

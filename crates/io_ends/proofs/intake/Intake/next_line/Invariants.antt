@@ -9,7 +9,7 @@ invariant-parts g l = record {
   midway : IsMidway l.longest (g.S.Source.left l.initial.source) (g.S.Source.left l.source) (held l.initial.self) (held l.self) l.initial.self.given l.self.given l.front;
   open_yet : l.self.ended ≡ false;
   within : l.self.given ≤ 2 ^ 30;
-  later : g.S.Source.faults l.initial.source ≤ g.S.Source.faults l.source;
+  count : g.S.Source.faults l.source ≡ g.S.Source.faults l.initial.source;
   idle : has_end (held l.initial.self) ≡ true → (l.source ≡ l.initial.source) × (held l.self ≡ held l.initial.self);
 }
 

@@ -1,5 +1,5 @@
 -- Which bytes answer which lines.
-use Rattle.std.specs.Prelude.{◌≡◌, ℕ, ◌-◌, ◌^◌, List, [], ◌∷◌, ◌++◌, map, take, true, Option, Some, None, ◌⊎◌}
+use Rattle.std.specs.Prelude.{◌≡◌, ℕ, ◌-◌, ◌^◌, ◌<◌, List, [], ◌∷◌, ◌++◌, map, take, length, true, Option, Some, None, ◌⊎◌}
 use Rattle.std.specs.List.{flat_map}
 use Rattle.io_ends.specs.declared.line.Line.{Line}
 use Rattle.io_ends.specs.declared.line.Line.TheVariants.{Words, Long, End}
@@ -8,7 +8,6 @@ use Rattle.frame_types.specs.declared.request.FrameCause.TheVariants as frame
 use Rattle.frame_types.specs.declared.reply.Reply.{Reply}
 use Rattle.frame_json.specs.Requests.{request_of, unread_by}
 use Rattle.frame_json.specs.Replies.{text}
-use Rattle.std.specs.Io.KnownBytes.{Appends}
 use Rattle.hub_spec.specs.Histories.{Entry, followed, told}
 use Rattle.hub_spec.specs.Laws.{Folds}
 use Rattle.hub_spec.specs.Runs.{IsAnswer, Ran}
@@ -37,37 +36,41 @@ reply_lines replies = flat_map reply_line replies
 -- the bytes are one reply line for each line, each the answer computed from scratch after those
 -- before it, under a choice that it names and that is allowed there; and in the history that they
 -- make, a client that folds each delta holds what its view showed
-pub record Answers (lines : List (List ℕ)) (out : List ℕ) : Type 0 where
+pub record AnswersLines (lines : List (List ℕ)) (out : List ℕ) : Type 0 where
   pub replies : List Reply
+  -- the history that the replies tell
   pub after : List Entry
   pub written : out ≡ reply_lines replies
   pub ran : Ran script_limit [] (map asked_of lines) replies after
   pub folds : Folds script_limit after
 
--- nothing, or a front of a reply line that answers the request after this history
-abbrev pub PartOf : ℕ → List Entry → ℕ × Ask → List ℕ → Type 0
-PartOf limit h asked part = (part ≡ []) ⊎ ((reply : Reply) × IsAnswer limit h asked.0 asked.1 reply × (n : ℕ) × (part ≡ take n (reply_line reply)))
+-- the request was asked after the history `h`, these bytes are a front of its reply line and not all
+-- of it, and `now` is the history then
+pub record IsCutShort (limit : ℕ) (h : List Entry) (asked : ℕ × Ask) (part : List ℕ) (now : List Entry) : Type 0 where
+  pub reply : Reply
+  pub answer : IsAnswer limit h asked.0 asked.1 reply
+  pub now_is : now ≡ followed limit h (told asked.0 asked.1 reply)
+  pub taken : ℕ
+  pub short : taken < length (reply_line reply)
+  pub front : part ≡ take taken (reply_line reply)
 
-abbrev pub PartOfNext : List Entry → List (List ℕ) → List ℕ → Type 0
-PartOfNext h [] part = part ≡ []
-PartOfNext h (line ∷ others) part = PartOf script_limit h (asked_of line) part
+-- of the lines that were not answered: none was asked, or the first was, and its reply line is cut short
+abbrev pub NextIs : List Entry → List (List ℕ) → List ℕ → List Entry → Type 0
+NextIs h [] part now = (part ≡ []) × (now ≡ h)
+NextIs h (line ∷ others) part now = ((part ≡ []) × (now ≡ h)) ⊎ IsCutShort script_limit h (asked_of line) part now
 
 -- the bytes are the reply lines to the first of the lines, and then a front of the next one
-pub record PartlyAnswers (lines : List (List ℕ)) (out : List ℕ) : Type 0 where
+pub record AnswersFirstLines (lines : List (List ℕ)) (out : List ℕ) : Type 0 where
   pub done : List (List ℕ)
   pub others : List (List ℕ)
   pub replies : List Reply
+  -- the history that the replies tell
   pub after : List Entry
   pub part : List ℕ
+  -- the history with the step whose reply line is cut short, where there is one
+  pub now : List Entry
   pub lines_are : lines ≡ done ++ others
   pub written : out ≡ reply_lines replies ++ part
   pub ran : Ran script_limit [] (map asked_of done) replies after
   pub folds : Folds script_limit after
-  pub next : PartOfNext after others part
-
--- one request was answered: the sink took its reply line, and what follows has the property
-pub record Answered (limit : ℕ) (h : List Entry) (asked : ℕ × Ask) (Stands : List Entry → Type 0) (before after : Option (List ℕ)) : Type 0 where
-  pub reply : Reply
-  pub answer : IsAnswer limit h asked.0 asked.1 reply
-  pub stands : Stands (followed limit h (told asked.0 asked.1 reply))
-  pub written : Appends before after (reply_line reply)
+  pub next : NextIs after others part now

@@ -1,5 +1,5 @@
--- Steps of a running script.
-use Rattle.std.proofs.Common.{◌≡◌, ℕ, ◌+◌, ◌-◌, ◌^◌, ◌<◌, ◌≤◌, ltb, Bool, true, false, List, [], ◌∷◌, ◌++◌, map, take, length, min, Option, Some, None, Result, Err, inl, refl, sym, ap, ◌∙◌, subst, append_assoc, append-nil, length-append, arith}
+-- Steps of a script that is underway.
+use Rattle.std.proofs.Common.{◌≡◌, ℕ, ◌+◌, ◌-◌, ◌^◌, ◌<◌, ◌≤◌, ltb, Bool, true, false, List, [], ◌∷◌, ◌++◌, map, take, length, min, Option, Some, None, Result, Err, inl, inr, refl, sym, ap, ◌∙◌, subst, append_assoc, append-nil, length-append, arith}
 use Rattle.std.proofs.KnownBytes.{Consumes-nil, Appends-nil, Consumes-trans, Appends-trans}
 use Rattle.std.proofs.lemmas.Bool.Decides.{nat_tests}
 use Rattle.std.proofs.Math.Seq.{take-append-add}
@@ -15,8 +15,9 @@ use Rattle.frame_types.specs.Asks.{Ask}
 use Rattle.frame_types.specs.declared.reply.Reply.{Reply}
 use Rattle.hub_spec.proofs.Folding.{deltas_fold}
 use Rattle.hub_spec.specs.Histories.{Entry, followed, told}
-use Rattle.hub_spec.specs.Runs.{IsAnswer, Ran}
-use Rattle.session_core.specs.Answers.{Answered, Answers, PartlyAnswers, PartOf, PartOfNext, asked_in, asked_of, reply_line, reply_lines, script_limit}
+use Rattle.hub_spec.specs.Runs.{IsAnswer, Ran, Steps}
+use Rattle.session_core.specs.Script.{NextIs, asked_in, asked_of, reply_line, reply_lines, script_limit}
+use Rattle.frame_json.specs.Replies as frame_replies
 use Rattle.frame_json.specs.Requests.{unread_by}
 use Rattle.frame_types.specs.declared.request.FrameCause.TheVariants as frame
 use Rattle.session_core.specs.declared.script.Fault.{Fault}
@@ -24,8 +25,8 @@ use Rattle.session_core.specs.declared.script.Fault.TheVariants as stop
 use Rattle.io_ends.specs.declared.sink.SinkFault.{SinkFault}
 use Rattle.io_ends.specs.declared.sink.SinkFault.TheVariants as sunk
 use Rattle.session_core.specs.Faults.{of_line, of_sink, fault_end}
-use Rattle.session_core.specs.Outcome.{Moved, Outcome}
-use Rattle.session_core.specs.Running.{Cut, IsRunning, Runs}
+use Rattle.session_core.specs.Outcome.{AllAnswered, FirstAnswered, LinesSoFar, Moved, Outcome}
+use Rattle.session_core.specs.Underway.{Cut, IsCaughtUp, IsPartlyReplied, IsReplied, IsUnderway}
 
 -- ---- runs of requests
 
@@ -50,9 +51,9 @@ reply_lines-push (s ∷ replies) r = ap (λ more. reply_line s ++ more) (reply_l
 -- ---- the start
 
 pub starts : (left written : Option (List ℕ)) (reader : ReaderState) (Stands : List Entry → Type 0)
-    → reader ≡ record { held = []; given = 0; longest = 1048576; ended = false; failed = false } → Stands [] → Runs left left written written reader 0 Stands
+    → reader ≡ record { held = []; given = 0; longest = 1048576; ended = false; failed = false } → Stands [] → IsCaughtUp left left written written reader 0 Stands
 starts left written reader Stands is stands =
-    let P : ReaderState → Type 0 = λ r. Runs left left written written r 0 Stands in
+    let P : ReaderState → Type 0 = λ r. IsCaughtUp left left written written r 0 Stands in
     subst P (sym is) (
       [],
       [],
@@ -72,9 +73,17 @@ starts left written reader Stands is stands =
 
 -- ---- lines that are left
 
-others_of : (ended : Bool) (held : List ℕ) (left : Option (List ℕ)) (came : List ℕ) (done : List (List ℕ)) → Cut ended held left came done → (others : List (List ℕ)) × (lines came ≡ done ++ others)
-others_of true held left came done cut = ([], cut.0 ∙ sym (append-nil done))
-others_of false held left came done cut = (lines (held ++ []), ap lines (sym (append-nil came)) ∙ (cut []).0)
+abbrev pub Splits : List (List ℕ) → List (List ℕ) → Type 0
+Splits done ls = (others : List (List ℕ)) × (ls ≡ done ++ others)
+
+-- the lines that were cut off are the first of the lines so far
+cut_off : (ended : Bool) (held : List ℕ) (left : Option (List ℕ)) (came : List ℕ) (done : List (List ℕ)) → Cut ended held left came done → LinesSoFar left came (Splits done)
+cut_off true held left came done cut = inr (cut.2, ([], cut.0 ∙ sym (append-nil done)))
+cut_off false held left came done cut = inl (ended_lines (held ++ []), ap ended_lines (sym (append-nil came)) ∙ (cut []).1)
+
+pub so_far : (left : Option (List ℕ)) (given : List ℕ) (P Q : List (List ℕ) → Type 0) → ((ls : List (List ℕ)) → P ls → Q ls) → LinesSoFar left given P → LinesSoFar left given Q
+so_far left given P Q f (inl p) = inl (f (ended_lines given) p)
+so_far left given P Q f (inr p) = inr (p.0, f (lines given) p.1)
 
 -- ---- after a fault of the source
 
@@ -89,26 +98,35 @@ not_ended ended held left came done is cut = let P : Bool → Type 0 = λ b. Cut
 pub now_ended : (ended : Bool) (held : List ℕ) (left : Option (List ℕ)) (came : List ℕ) (done : List (List ℕ)) → ended ≡ true → Cut ended held left came done → Cut true held left came done
 now_ended ended held left came done is cut = let P : Bool → Type 0 = λ b. Cut b held left came done in subst P is cut
 
--- nothing of the next line is written yet
-pub nothing_yet : (now : List Entry) (others : List (List ℕ)) → PartOfNext now others []
-nothing_yet now [] = refl
-nothing_yet now (text ∷ others) = inl refl
+-- no other line is asked
+none_asked : (now : List Entry) (others : List (List ℕ)) → NextIs now others [] now
+none_asked now [] = (refl, refl)
+none_asked now (text ∷ others) = inl (refl, refl)
 
--- the first of the lines were answered, and nothing more was written
-pub partly : (all done others : List (List ℕ)) (replies : List Reply) (now : List Entry) → all ≡ done ++ others
-    → Ran script_limit [] (map asked_of done) replies now → PartlyAnswers all (reply_lines replies)
-partly all done others replies now is ran = record {
-  done = done;
-  others = others;
-  replies = replies;
-  after = now;
-  part = [];
-  lines_are = is;
-  written = sym (append-nil (reply_lines replies));
-  ran = ran;
-  folds = deltas_fold script_limit now;
-  next = nothing_yet now others;
-}
+-- these lines were answered, and nothing more was written
+all_answered : (Stands : List Entry → Type 0) (all : List (List ℕ)) (replies : List Reply) (now : List Entry)
+    → Ran script_limit [] (map asked_of all) replies now → Stands now → AllAnswered Stands (reply_lines replies) all
+all_answered Stands all replies now ran stands = (record { replies = replies; after = now; written = refl; ran = ran; folds = deltas_fold script_limit now }, stands)
+
+-- the first of the lines were answered, and nothing more was asked
+pub first_answered : (Stands : List Entry → Type 0) (done : List (List ℕ)) (replies : List Reply) (now : List Entry)
+    → Ran script_limit [] (map asked_of done) replies now → Stands now → (all : List (List ℕ)) → Splits done all → FirstAnswered Stands (reply_lines replies) all
+first_answered Stands done replies now ran stands all split = (
+  record {
+    done = done;
+    others = split.0;
+    replies = replies;
+    after = now;
+    part = [];
+    now = now;
+    lines_are = split.1;
+    written = sym (append-nil (reply_lines replies));
+    ran = ran;
+    folds = deltas_fold script_limit now;
+    next = none_asked now split.0;
+  },
+  stands,
+)
 
 take_within : (came : List ℕ) (given given' : ℕ) → given' ≡ given + length came → given' ≤ 2 ^ 30 → take (2 ^ 30 - given) came ≡ came
 take_within came given given' is within = take_all (2 ^ 30 - given) came (omega arith)
@@ -121,61 +139,54 @@ take_past n xs ys h =
 -- the source failed, gave too much, or there was no memory for the line
 pub fails : (before left left' into written : Option (List ℕ)) (reader : ReaderState) (given' : ℕ) (Stands : List Entry → Type 0) (why : LineFault)
     (came more : List ℕ) (done : List (List ℕ)) (replies : List Reply) (now : List Entry)
-    → IsRunning before left into written reader Stands came done done replies now → reader.ended ≡ false → reader.given ≤ 2 ^ 30
+    → IsUnderway before left into written reader Stands came done done replies now → reader.ended ≡ false → reader.given ≤ 2 ^ 30
     → Consumes left left' more → given' ≡ reader.given + length more → LeavesNone why reader.held reader.given more
     → IsWithin (let r : Result Bool LineFault = Err why in r) given'
-    → Moved before left' into written (Outcome (fault_end (of_line why)) left')
+    → Moved before left' into written (Outcome (fault_end (of_line why)) left' Stands)
 fails before left left' into written reader given' Stands fault.Read came more done replies now run still within consumes grows none bounded = (
   came ++ more,
   reply_lines replies,
   Consumes-trans before left left' came more run.consumed consumes,
   run.appended,
   (
-    record {
-      replies = replies;
-      after = now;
-      written = refl;
-      ran = let P : List (List ℕ) → Type 0 = λ d. Ran script_limit [] (map asked_of d) replies now in
-          let all : take (2 ^ 30 - reader.given) more ≡ more = take_within more reader.given given' grows bounded in
-          let same : ended_lines (came ++ more) ≡ done =
-          none_after reader.held more reader.given done came (not_ended reader.ended reader.held left came done still run.cut) (subst (λ (m : List ℕ). NoEnd (reader.held ++ m)) all none) in
-          subst P (sym same) run.ran;
-      folds = deltas_fold script_limit now;
-    },
+    (
+        let P : List (List ℕ) → Type 0 = λ d. AllAnswered Stands (reply_lines replies) d in
+        let all : take (2 ^ 30 - reader.given) more ≡ more = take_within more reader.given given' grows bounded in
+        let same : ended_lines (came ++ more) ≡ done =
+        none_after reader.held more reader.given done came (not_ended reader.ended reader.held left came done still run.cut) (subst (λ (m : List ℕ). NoEnd (reader.held ++ m)) all none) in
+        subst P (sym same) (all_answered Stands done replies now run.ran run.stands)
+        ),
     (let size = length-append came more in let given : reader.given ≡ length came = run.given in omega arith),
   ),
 )
 fails before left left' into written reader given' Stands fault.TooMany came more done replies now run still within consumes grows none bounded =
     let given : reader.given ≡ length came = run.given in
     let front : List ℕ = take (2 ^ 30 - reader.given) more in
-    let cut_off : take (2 ^ 30) (came ++ more) ≡ came ++ front =
+    let cut_here : take (2 ^ 30) (came ++ more) ≡ came ++ front =
     take_past (2 ^ 30) came more (omega arith) ∙ ap (λ n. came ++ take (2 ^ 30 - n) more) (sym given) in (
       came ++ more,
       reply_lines replies,
       Consumes-trans before left left' came more run.consumed consumes,
       run.appended,
       (
-        record {
-          replies = replies;
-          after = now;
-          written = refl;
-          ran = let P : List (List ℕ) → Type 0 = λ d. Ran script_limit [] (map asked_of d) replies now in
-              let same : ended_lines (take (2 ^ 30) (came ++ more)) ≡ done =
-              ap ended_lines cut_off ∙ none_after reader.held front reader.given done came (not_ended reader.ended reader.held left came done still run.cut) none in
-              subst P (sym same) run.ran;
-          folds = deltas_fold script_limit now;
-        },
+        (
+            let P : List (List ℕ) → Type 0 = λ d. AllAnswered Stands (reply_lines replies) d in
+            let same : ended_lines (take (2 ^ 30) (came ++ more)) ≡ done =
+            ap ended_lines cut_here ∙ none_after reader.held front reader.given done came (not_ended reader.ended reader.held left came done still run.cut) none in
+            subst P (sym same) (all_answered Stands done replies now run.ran run.stands)
+            ),
         (let size = length-append came more in omega arith),
       ),
     )
 fails before left left' into written reader given' Stands fault.Memory came more done replies now run still within consumes grows none bounded =
-    let given : reader.given ≡ length came = run.given in (
+    let given : reader.given ≡ length came = run.given in
+    let cut = not_ended reader.ended reader.held left came done still run.cut more in (
       came ++ more,
       reply_lines replies,
       Consumes-trans before left left' came more run.consumed consumes,
       run.appended,
       (
-        partly (lines (came ++ more)) done (lines (reader.held ++ more)) replies now (not_ended reader.ended reader.held left came done still run.cut more).0 run.ran,
+        inl (first_answered Stands done replies now run.ran run.stands (ended_lines (came ++ more)) (ended_lines (reader.held ++ more), cut.1)),
         (let size = length-append came more in omega arith),
       ),
     )
@@ -223,10 +234,10 @@ length-push done text = length-append done (text ∷ [])
 
 with_text : (before left left' into written : Option (List ℕ)) (reader reader' : ReaderState) (Stands : List Entry → Type 0) (came more : List ℕ)
     (done : List (List ℕ)) (replies : List Reply) (now : List Entry) (text : List ℕ)
-    → IsRunning before left into written reader Stands came done done replies now → reader.ended ≡ false
+    → IsUnderway before left into written reader Stands came done done replies now → reader.ended ≡ false
     → Consumes left left' more → reader'.given ≡ reader.given + length more → IsFirst (reader.held ++ more) text reader'.held reader'.ended
     → (reader'.ended ≡ true → reader.ended ≡ false → IsAtEnd left') → reader.given + length reader'.held < reader'.given + length reader.held
-    → IsRunning before left' into written reader' Stands (came ++ more) (done ++ text ∷ []) done replies now
+    → IsUnderway before left' into written reader' Stands (came ++ more) (done ++ text ∷ []) done replies now
 with_text before left left' into written reader reader' Stands came more done replies now text run still consumes grows first last takes = record {
   consumed = Consumes-trans before left left' came more run.consumed consumes;
   given = grows ∙ ap (λ n. n + length more) run.given ∙ sym (length-append came more);
@@ -243,8 +254,8 @@ unread_long text h = let long : ltb 1048576 (length text) ≡ true = grind (arit
 -- a line that asks something
 pub reads_line : (before left left' into written : Option (List ℕ)) (reader reader' : ReaderState) (Stands : List Entry → Type 0) (came more : List ℕ)
     (done : List (List ℕ)) (replies : List Reply) (now : List Entry) (l : Line) (q : ℕ × Ask) → reader.longest ≡ 1048576
-    → IsRunning before left into written reader Stands came done done replies now → Reads left left' reader reader' l more → asked_in l ≡ Some q
-    → (text : List ℕ) × (asked_of text ≡ q) × IsRunning before left' into written reader' Stands (came ++ more) (done ++ text ∷ []) done replies now
+    → IsUnderway before left into written reader Stands came done done replies now → Reads left left' reader reader' l more → asked_in l ≡ Some q
+    → (text : List ℕ) × (asked_of text ≡ q) × IsUnderway before left' into written reader' Stands (came ++ more) (done ++ text ∷ []) done replies now
 reads_line before left left' into written reader reader' Stands came more done replies now (line.Words text) q longest run read asks =
     let still = still_open reader.ended reader.held left came done run.cut (λ e n. let wrong : line.Words text ≡ line.End = (read.after_end e n).0 in cc) in
     (text, (let is : Some (asked_of text) ≡ Some q = asks in cc), with_text before left left' into written reader reader' Stands came more done replies now text run still read.consumes read.grows read.gives.1 read.last read.takes)
@@ -261,8 +272,8 @@ reads_line before left left' into written reader reader' Stands came more done r
 -- no line is left
 pub reads_end : (before left left' into written : Option (List ℕ)) (reader reader' : ReaderState) (Stands : List Entry → Type 0) (came more : List ℕ)
     (done : List (List ℕ)) (replies : List Reply) (now : List Entry) (l : Line)
-    → IsRunning before left into written reader Stands came done done replies now → Reads left left' reader reader' l more → asked_in l ≡ None
-    → IsRunning before left' into written reader' Stands (came ++ more) done done replies now
+    → IsUnderway before left into written reader Stands came done done replies now → Reads left left' reader reader' l more → asked_in l ≡ None
+    → IsUnderway before left' into written reader' Stands (came ++ more) done done replies now
 reads_end before left left' into written reader reader' Stands came more done replies now (line.Words text) run read asks = absurd (let wrong : Some (asked_of text) ≡ None = asks in cc)
 reads_end before left left' into written reader reader' Stands came more done replies now line.Long run read asks = absurd (let wrong : Some (unread_by frame.Long) ≡ None = asks in cc)
 reads_end before left left' into written reader reader' Stands came more done replies now line.End run read asks =
@@ -295,107 +306,125 @@ reads_end before left left' into written reader reader' Stands came more done re
 -- there was no memory for a line that was read
 pub lost : (before left left' into written : Option (List ℕ)) (reader reader' : ReaderState) (Stands : List Entry → Type 0) (came more : List ℕ)
     (done : List (List ℕ)) (replies : List Reply) (now : List Entry) (l : Line)
-    → IsRunning before left into written reader Stands came done done replies now → Reads left left' reader reader' l more → reader'.given ≤ 2 ^ 30
-    → Moved before left' into written (Outcome (fault_end stop.Memory) left')
-lost before left left' into written reader reader' Stands came more done replies now l run read within =
-    let rest = after_line reader.ended reader.held left came more done run.cut (λ e n. nothing_at reader more l reader'.held reader'.ended (read.after_end e n).0 read.gives) in (
-      came ++ more,
-      reply_lines replies,
-      Consumes-trans before left left' came more run.consumed read.consumes,
-      run.appended,
-      (
-        partly (lines (came ++ more)) done rest.0 replies now rest.1 run.ran,
-        (let size = length-append came more in let grows = read.grows in let given = run.given in omega arith),
-      ),
-    )
+    → IsUnderway before left into written reader Stands came done done replies now → Reads left left' reader reader' l more → reader'.given ≤ 2 ^ 30
+    → Moved before left' into written (Outcome (fault_end stop.Memory) left' Stands)
+lost before left left' into written reader reader' Stands came more done replies now l run read within = (
+  came ++ more,
+  reply_lines replies,
+  Consumes-trans before left left' came more run.consumed read.consumes,
+  run.appended,
+  (
+    so_far left' (came ++ more) (Splits done) (FirstAnswered Stands (reply_lines replies)) (first_answered Stands done replies now run.ran run.stands)
+        (after_line reader.ended reader.held left left' came more done run.cut (λ e n. (nothing_at reader more l reader'.held reader'.ended (read.after_end e n).0 read.gives, (read.after_end e n).1))),
+    (let size = length-append came more in let grows = read.grows in let given = run.given in omega arith),
+  ),
+)
   where
     nothing_at : (reader : ReaderState) (more : List ℕ) (l : Line) (held' : List ℕ) (ended' : Bool) → l ≡ line.End → Gives reader.longest (reader.held ++ more) l held' ended' → more ≡ []
     nothing_at reader more (line.Words text) held' ended' is gives = absurd (let wrong : line.Words text ≡ line.End = is in cc)
     nothing_at reader more line.Long held' ended' is gives = absurd (let wrong : line.Long ≡ line.End = is in cc)
     nothing_at reader more line.End held' ended' is gives = nothing_more reader.held more gives.0
 
-    after_line : (b : Bool) (held : List ℕ) (left : Option (List ℕ)) (came more : List ℕ) (done : List (List ℕ)) → Cut b held left came done → (b ≡ true → held ≡ [] → more ≡ [])
-        → (others : List (List ℕ)) × (lines (came ++ more) ≡ done ++ others)
-    after_line true held left came more done cut none = ([], ap (λ bs. lines (came ++ bs)) (none refl cut.1) ∙ ap lines (append-nil came) ∙ cut.0 ∙ sym (append-nil done))
-    after_line false held left came more done cut none = (lines (held ++ more), (cut more).0)
+    after_line : (b : Bool) (held : List ℕ) (left left' : Option (List ℕ)) (came more : List ℕ) (done : List (List ℕ)) → Cut b held left came done
+        → (b ≡ true → held ≡ [] → (more ≡ []) × (left' ≡ left)) → LinesSoFar left' (came ++ more) (Splits done)
+    after_line true held left left' came more done cut at_end =
+        let same = at_end refl cut.1 in
+        inr (subst IsAtEnd (sym same.1) cut.2, ([], ap (λ bs. lines (came ++ bs)) same.0 ∙ ap lines (append-nil came) ∙ cut.0 ∙ sym (append-nil done)))
+    after_line false held left left' came more done cut at_end = inl (ended_lines (held ++ more), (cut more).1)
 
--- the first of the lines were answered, and of the next reply line a front was written at most
-pub stops : (before left into written written' : Option (List ℕ)) (reader : ReaderState) (Stands : List Entry → Type 0) (came : List ℕ) (done : List (List ℕ)) (text : List ℕ)
-    (replies : List Reply) (now : List Entry) (part : List ℕ)
-    → IsRunning before left into written reader Stands came (done ++ text ∷ []) done replies now → Appends written written' part → PartOf script_limit now (asked_of text) part
-    → PartlyAnswers (lines came) (reply_lines replies ++ part)
-stops before left into written written' reader Stands came done text replies now part run appends next =
-    let rest = others_of reader.ended reader.held left came (done ++ text ∷ []) run.cut in record {
-      done = done;
-      others = text ∷ rest.0;
-      replies = replies;
-      after = now;
-      part = part;
-      lines_are = rest.1 ∙ append_assoc done (text ∷ []) rest.0;
-      written = refl;
-      ran = run.ran;
-      folds = deltas_fold script_limit now;
-      next = next;
-    }
+-- the first of the lines were answered, and the next one was asked, whose reply line is cut short
+pub stops : (before left into written written' : Option (List ℕ)) (reader : ReaderState) (Stands Stands' : List Entry → Type 0) (came : List ℕ) (done : List (List ℕ)) (text : List ℕ)
+    (replies : List Reply) (now : List Entry)
+    → IsUnderway before left into written reader Stands came (done ++ text ∷ []) done replies now → IsPartlyReplied script_limit now (asked_of text) Stands' written written'
+    → (part : List ℕ) × Appends into written' (reply_lines replies ++ part) × LinesSoFar left came (FirstAnswered Stands' (reply_lines replies ++ part))
+stops before left into written written' reader Stands Stands' came done text replies now run p =
+    let part : List ℕ = take p.2 (reply_line p.0) in (
+      part,
+      Appends-trans into written written' (reply_lines replies) part run.appended p.4,
+      so_far left came (Splits (done ++ text ∷ [])) (FirstAnswered Stands' (reply_lines replies ++ part)) (λ all split. (
+        record {
+          done = done;
+          others = text ∷ split.0;
+          replies = replies;
+          after = now;
+          part = part;
+          now = followed script_limit now (told (asked_of text).0 (asked_of text).1 p.0);
+          lines_are = split.1 ∙ append_assoc done (text ∷ []) split.0;
+          written = refl;
+          ran = run.ran;
+          folds = deltas_fold script_limit now;
+          next = inr (record { reply = p.0; answer = p.1.answer; now_is = refl; taken = p.2; short = p.3; front = refl });
+        },
+        p.1.stands,
+      )) (cut_off reader.ended reader.held left came (done ++ text ∷ []) run.cut),
+    )
 
 -- memory or the sink failed
-pub stopped : (f : Fault) (left : Option (List ℕ)) (given out : List ℕ) → (f ≡ stop.Read → ⊥) → (f ≡ stop.TooLong → ⊥) → PartlyAnswers (lines given) out → length given ≤ 2 ^ 30
-    → Outcome (fault_end f) left given out
-stopped stop.Memory left given out read many partly within = (partly, within)
-stopped stop.Write left given out read many partly within = (partly, within)
-stopped stop.Read left given out read many partly within = absurd (read refl)
-stopped stop.TooLong left given out read many partly within = absurd (many refl)
+pub stopped : (f : Fault) (left : Option (List ℕ)) (Stands : List Entry → Type 0) (given out : List ℕ) → (f ≡ stop.Read → ⊥) → (f ≡ stop.TooLong → ⊥)
+    → LinesSoFar left given (FirstAnswered Stands out) → length given ≤ 2 ^ 30 → Outcome (fault_end f) left Stands given out
+stopped stop.Memory left Stands given out read many partly within = (partly, within)
+stopped stop.Write left Stands given out read many partly within = (partly, within)
+stopped stop.Read left Stands given out read many partly within = absurd (read refl)
+stopped stop.TooLong left Stands given out read many partly within = absurd (many refl)
 
 -- ---- the request was answered
 
 pub answers : (before left into written written' : Option (List ℕ)) (reader : ReaderState) (Stands Stands' : List Entry → Type 0) (came : List ℕ) (done : List (List ℕ)) (text : List ℕ)
     (replies : List Reply) (now : List Entry)
-    → IsRunning before left into written reader Stands came (done ++ text ∷ []) done replies now → (a : Answered script_limit now (asked_of text) Stands' written written')
-    → IsRunning before left into written' reader Stands' came (done ++ text ∷ []) (done ++ text ∷ []) (replies ++ a.reply ∷ []) (followed script_limit now (told (asked_of text).0 (asked_of text).1 a.reply))
+    → IsUnderway before left into written reader Stands came (done ++ text ∷ []) done replies now → (a : IsReplied script_limit now (asked_of text) Stands' written written')
+    → IsUnderway before left into written' reader Stands' came (done ++ text ∷ []) (done ++ text ∷ []) (replies ++ a.0 ∷ []) (followed script_limit now (told (asked_of text).0 (asked_of text).1 a.0))
 answers before left into written written' reader Stands Stands' came done text replies now run a = record {
   consumed = run.consumed;
   given = run.given;
   small = run.small;
   cut = run.cut;
   ran =
-      let P : List (ℕ × Ask) → Type 0 = λ qs. Ran script_limit [] qs (replies ++ a.reply ∷ []) (followed script_limit now (told (asked_of text).0 (asked_of text).1 a.reply)) in
-      subst P (sym (map-push done text)) (Ran-push script_limit (map asked_of done) replies [] now (asked_of text) a.reply run.ran a.answer);
-  stands = a.stands;
-  appended = subst (Appends into written') (sym (reply_lines-push replies a.reply)) (Appends-trans into written written' (reply_lines replies) (reply_line a.reply) run.appended a.written);
+      let P : List (ℕ × Ask) → Type 0 = λ qs. Ran script_limit [] qs (replies ++ a.0 ∷ []) (followed script_limit now (told (asked_of text).0 (asked_of text).1 a.0)) in
+      subst P (sym (map-push done text)) (Ran-push script_limit (map asked_of done) replies [] now (asked_of text) a.0 run.ran a.1.answer);
+  stands = a.1.stands;
+  appended = subst (Appends into written') (sym (reply_lines-push replies a.0)) (Appends-trans into written written' (reply_lines replies) (reply_line a.0) run.appended a.2);
 }
+
+-- of a reply line nothing was written, which isn't all of it
+pub none_written : (limit : ℕ) (h : List Entry) (asked : ℕ × Ask) (Stands : List Entry → Type 0) (written : Option (List ℕ)) (reply : Reply)
+    → Steps limit h asked.0 asked.1 reply Stands → IsPartlyReplied limit h asked Stands written written
+none_written limit h asked Stands written reply step =
+    let size : length (reply_line reply) ≡ length (frame_replies.text reply) + 1 = length-append (frame_replies.text reply) (10 ∷ []) in
+    (reply, step, 0, (omega arith), Appends-nil written)
 
 -- ---- the whole script
 
 -- nothing was read and nothing written
-pub fresh : (left written : Option (List ℕ)) → Moved left left written written (Outcome (fault_end stop.Memory) left)
-fresh left written = ([], [], Consumes-nil left, Appends-nil written, (partly [] [] [] [] [] refl refl, omega arith))
+pub fresh : (left written : Option (List ℕ)) (Stands : List Entry → Type 0) → Stands [] → Moved left left written written (Outcome (fault_end stop.Memory) left Stands)
+fresh left written Stands stands = ([], [], Consumes-nil left, Appends-nil written, (inl (first_answered Stands [] [] [] refl stands [] ([], refl)), omega arith))
 
 -- all lines were answered
 pub finished : (before left into written : Option (List ℕ)) (reader : ReaderState) (Stands : List Entry → Type 0) (came : List ℕ) (done : List (List ℕ)) (replies : List Reply) (now : List Entry) (count : ℕ)
-    → IsRunning before left into written reader Stands came done done replies now → reader.ended ≡ true → count ≡ length done → reader.given ≤ 2 ^ 30
-    → IsAtEnd left × Answers (lines came) (reply_lines replies) × (count ≡ length (lines came)) × (length came ≤ 2 ^ 30)
+    → IsUnderway before left into written reader Stands came done done replies now → reader.ended ≡ true → count ≡ length done → reader.given ≤ 2 ^ 30
+    → IsAtEnd left × AllAnswered Stands (reply_lines replies) (lines came) × (count ≡ length (lines came)) × (length came ≤ 2 ^ 30)
 finished before left into written reader Stands came done replies now count run ended is within =
-    let cut = now_ended reader.ended reader.held left came done ended run.cut in (
+    let cut = now_ended reader.ended reader.held left came done ended run.cut in
+    let P : List (List ℕ) → Type 0 = λ d. AllAnswered Stands (reply_lines replies) d in (
       cut.2,
-      record {
-        replies = replies;
-        after = now;
-        written = refl;
-        ran = let P : List (List ℕ) → Type 0 = λ d. Ran script_limit [] (map asked_of d) replies now in subst P (sym cut.0) run.ran;
-        folds = deltas_fold script_limit now;
-      },
+      subst P (sym cut.0) (all_answered Stands done replies now run.ran run.stands),
       is ∙ ap length (sym cut.0),
       (let given = run.given in omega arith),
     )
 
 -- all lines were answered, and the sink failed at last
 pub unfinished : (before left into written : Option (List ℕ)) (reader : ReaderState) (Stands : List Entry → Type 0) (came : List ℕ) (done : List (List ℕ)) (replies : List Reply) (now : List Entry) (why : SinkFault)
-    → IsRunning before left into written reader Stands came done done replies now → reader.ended ≡ true → reader.given ≤ 2 ^ 30
-    → Outcome (fault_end (of_sink why)) left came (reply_lines replies)
-unfinished before left into written reader Stands came done replies now sunk.Failed run ended within =
-    let cut = now_ended reader.ended reader.held left came done ended run.cut in (partly (lines came) done [] replies now (cut.0 ∙ sym (append-nil done)) run.ran, (let given = run.given in omega arith))
-unfinished before left into written reader Stands came done replies now sunk.Memory run ended within =
-    let cut = now_ended reader.ended reader.held left came done ended run.cut in (partly (lines came) done [] replies now (cut.0 ∙ sym (append-nil done)) run.ran, (let given = run.given in omega arith))
+    → IsUnderway before left into written reader Stands came done done replies now → reader.given ≤ 2 ^ 30
+    → Outcome (fault_end (of_sink why)) left Stands came (reply_lines replies)
+unfinished before left into written reader Stands came done replies now why run within =
+    sunk_end why (
+      so_far left came (Splits done) (FirstAnswered Stands (reply_lines replies)) (first_answered Stands done replies now run.ran run.stands)
+          (cut_off reader.ended reader.held left came done run.cut),
+      (let given = run.given in omega arith),
+    )
+  where
+    sunk_end : (why : SinkFault) → LinesSoFar left came (FirstAnswered Stands (reply_lines replies)) × (length came ≤ 2 ^ 30) → Outcome (fault_end (of_sink why)) left Stands came (reply_lines replies)
+    sunk_end sunk.Failed h = h
+    sunk_end sunk.Memory h = h
 
 pub one_more : (count size given : ℕ) → count ≡ size + 1 → size + 1 ≤ given → given ≤ 2 ^ 30 → min count (2 ^ 64 - 1) ≡ size + 1
 one_more count size given is small within = omega arith
