@@ -1,9 +1,7 @@
-ghost use Rattle.std.specs.Prelude.{◌≡◌, false, IfOk};
-
 use crate::{read_request, write_reply};
-use cell_core::{Cell, ColumnWords, Day, Fraction, Listed, Memory, Moment, Numbers, Text, Value};
-use delta_core::{Delta, Keys, Mark, Put, Puts};
-use frame_types::{Body, Cause, FrameCause, Refusal, Reply, Request};
+use cell_core::{Cell, Day, Fraction, Listed, Memory, Moment, Text, Value};
+use delta_core::{Delta, Keys, Mark, Puts};
+use frame_types::{Body, FrameCause, Reply, Request};
 use std::alloc::Global;
 use std::test::Fail;
 use view_types::{
@@ -123,121 +121,21 @@ fn a_script_names_sessions(rt: HostRuntime) -> Result<(), Fail> {
 }
 
 #[test]
-fn a_long_line_is_not_read(rt: HostRuntime) -> Result<(), Fail> {
-    let alloc = rt.alloc();
-    let mut line = b"{\"op\":\"port\"}".to_vec(alloc)?;
-    line.resize(1048576, b' ')?;
-    assert_eq!(rt; read(alloc, line.as_slice(), true)?, ("port", 0));
-    line.push(b'}')?;
-    assert_eq!(rt; read(alloc, line.as_slice(), true)?, ("long", 0));
-    Ok(())
-}
-
-fn written(alloc: Global, n: u64, version: u64, body: Body) -> Result<Text, Memory> {
-    write_reply(alloc, &Reply { n, version, body })
-}
-
-#[test]
-fn replies_are_written(rt: HostRuntime) -> Result<(), Fail> {
-    let alloc = rt.alloc();
-    let table = written(alloc, 1, 0, Body::Table)?;
-    assert_eq!(rt; table.as_str(), "{\"is\":\"table\",\"n\":1,\"version\":0}");
-    let port = written(alloc, 2, 0, Body::Port { port: 0 })?;
-    assert_eq!(rt;
-        port.as_str(),
-        "{\"is\":\"port\",\"n\":2,\"port\":0,\"version\":0}"
-    );
-    let queued = written(alloc, 3, 0, Body::Queued { port: 0, seq: 1 })?;
-    assert_eq!(rt;
-        queued.as_str(),
-        "{\"is\":\"queued\",\"n\":3,\"port\":0,\"seq\":1,\"version\":0}"
-    );
-    let applied = written(alloc, 4, 1, Body::Applied { port: 0, seq: 1 })?;
-    assert_eq!(rt;
-        applied.as_str(),
-        "{\"is\":\"applied\",\"n\":4,\"port\":0,\"seq\":1,\"version\":1}"
-    );
-    Ok(())
-}
-
-#[test]
-fn what_the_table_is_told_of_is_written(rt: HostRuntime) -> Result<(), Fail> {
-    let alloc = rt.alloc();
-    let mut columns = Listed::new(alloc);
-    columns.push(ColumnWords {
-        name: Text::from_str(alloc, "k")?,
-        kind: Text::from_str(alloc, "integer")?,
-    })?;
-    let told = Body::Info {
-        columns,
-        index: Some(Text::from_str(alloc, "k")?),
-        limit: None,
-        size: 2,
-        waiting: 1,
-    };
-    let want =
-        "{\"columns\":[[\"k\",\"integer\"]],\"index\":\"k\",\"is\":\"info\",\"n\":3,\"size\":2,\"version\":1,\"waiting\":1}";
-    assert_eq!(rt; written(alloc, 3, 1, told)?.as_str(), want);
-    let left = written(alloc, 6, 1, Body::Left { closed: 1 })?;
-    assert_eq!(rt;
-        left.as_str(),
-        "{\"closed\":1,\"is\":\"left\",\"n\":6,\"version\":1}"
-    );
-    let closed = written(alloc, 7, 1, Body::Closed { view: 0 })?;
-    assert_eq!(rt;
-        closed.as_str(),
-        "{\"is\":\"closed\",\"n\":7,\"version\":1,\"view\":0}"
-    );
-    Ok(())
-}
-
-#[test]
 fn lost_views_are_written(rt: HostRuntime) -> Result<(), Fail> {
     let alloc = rt.alloc();
     let lost = Listed::from_vec([(0, 2), (3, 1)].to_vec(alloc)?);
-    let losing = written(
-        alloc,
-        9,
-        4,
-        Body::AppliedLosing {
+    let losing = Reply {
+        n: 9,
+        version: 4,
+        body: Body::AppliedLosing {
             lost,
             port: 1,
             seq: 2,
         },
-    )?;
+    };
     let want =
         "{\"is\":\"applied_losing\",\"lost\":[[0,2],[3,1]],\"n\":9,\"port\":1,\"seq\":2,\"version\":4}";
-    assert_eq!(rt; losing.as_str(), want);
-    Ok(())
-}
-
-fn refusal(alloc: Global, n: u64, code: u8, cause: Cause, at: Numbers) -> Result<Text, Memory> {
-    written(alloc, n, 0, Body::Refused(Refusal { code, cause, at }))
-}
-
-#[test]
-fn refusals_are_written(rt: HostRuntime) -> Result<(), Fail> {
-    let alloc = rt.alloc();
-    let no_table = refusal(alloc, 1, 21, Cause::NoTable, Numbers::Zero)?;
-    assert_eq!(rt;
-        no_table.as_str(),
-        "{\"at\":[],\"cause\":\"no table\",\"code\":21,\"is\":\"refused\",\"n\":1,\"version\":0}"
-    );
-    let unbuilt = refusal(alloc, 1, 1, Cause::Unbuilt, Numbers::Zero)?;
-    assert_eq!(rt;
-        unbuilt.as_str(),
-        "{\"at\":[],\"cause\":\"unbuilt\",\"code\":1,\"is\":\"refused\",\"n\":1,\"version\":0}"
-    );
-    let empty = refusal(alloc, 3, 12, Cause::Empty, Numbers::Zero)?;
-    assert_eq!(rt;
-        empty.as_str(),
-        "{\"at\":[],\"cause\":\"empty\",\"code\":12,\"is\":\"refused\",\"n\":3,\"version\":0}"
-    );
-    let full = refusal(alloc, 6, 11, Cause::HistoryFull, Numbers::One(5))?;
-    assert_eq!(rt;
-        full.as_str(),
-        "{\"at\":[5],\"cause\":\"history full\",\"code\":11,\"is\":\"refused\",\"n\":6,\"version\":0}"
-    );
+    assert_eq!(rt; write_reply(alloc, &losing)?.as_str(), want);
     Ok(())
 }
 
@@ -255,95 +153,6 @@ fn header(alloc: Global) -> Result<Header, Memory> {
     Ok(header)
 }
 
-fn whole_row(alloc: Global, key: i64, value: Option<i64>) -> Result<ShownRow, Memory>
-    ensures key { IfOk result (λ row. row.key ≡ ViewKey.Row (Cell.Int key)) }
-    ensures mark { IfOk result (λ row. row.mark ≡ false) }
-{
-    let mut cells = ShownCells::new(alloc);
-    cells.put(Text::from_str(alloc, "k")?, Value::Whole(key as i128))?;
-    if let Some(value) = value {
-        cells.put(Text::from_str(alloc, "v")?, Value::Whole(value as i128))?;
-    }
-    Ok(ShownRow {
-        key: ViewKey::Row(Cell::Int(key)),
-        mark: false,
-        cells,
-    })
-}
-
-fn two_rows(alloc: Global) -> Result<ShownRows, Memory> {
-    let mut rows = Listed::new(alloc);
-    rows.push(whole_row(alloc, 1, Some(7))?)?;
-    rows.push(whole_row(alloc, 2, Some(5))?)?;
-    Ok(ShownRows::from_listed(rows))
-}
-
-#[test]
-fn an_opened_view_is_written(rt: HostRuntime) -> Result<(), Fail> {
-    let alloc = rt.alloc();
-    let shown = Shown {
-        header: header(alloc)?,
-        rows: two_rows(alloc)?,
-    };
-    let opened = written(
-        alloc,
-        5,
-        1,
-        Body::Opened {
-            edit: 0,
-            shown,
-            view: 0,
-        },
-    )?;
-    let want =
-        "{\"edit\":0,\"header\":[[\"k\",\"integer\"],[\"v\",\"integer\"]],\"is\":\"opened\",\"n\":5,\"rows\":[[[\"r\",1],{\"k\":1,\"v\":7}],[[\"r\",2],{\"k\":2,\"v\":5}]],\"version\":1,\"view\":0}";
-    assert_eq!(rt; opened.as_str(), want);
-    Ok(())
-}
-
-fn mark(version: u64, edit: u64) -> Mark {
-    Mark { version, edit }
-}
-
-/// A delta that removes nothing and has no header.
-fn delta(alloc: Global, from: Mark, to: Mark, puts: Puts) -> Delta {
-    Delta {
-        from,
-        to,
-        removed: Keys::from_listed(Listed::new(alloc)),
-        puts,
-        header: None,
-    }
-}
-
-fn one_put(alloc: Global) -> Result<Puts, Memory> {
-    let mut puts = Listed::new(alloc);
-    let row = whole_row(alloc, 1, None)?;
-    puts.push(Put { position: 0, row })?;
-    Ok(Puts::from_listed(puts))
-}
-
-#[test]
-fn deltas_are_written(rt: HostRuntime) -> Result<(), Fail> {
-    let alloc = rt.alloc();
-    let no_puts = Puts::from_listed(Listed::new(alloc));
-    let same = Body::Delta {
-        delta: delta(alloc, mark(0, 0), mark(2, 0), no_puts),
-        view: 0,
-    };
-    let want =
-        "{\"edit\":0,\"from\":[0,0],\"is\":\"delta\",\"n\":8,\"put\":[],\"removed\":[],\"version\":2,\"view\":0}";
-    assert_eq!(rt; written(alloc, 8, 2, same)?.as_str(), want);
-    let changed = Body::Delta {
-        delta: delta(alloc, mark(2, 0), mark(3, 0), one_put(alloc)?),
-        view: 0,
-    };
-    let want =
-        "{\"edit\":0,\"from\":[2,0],\"is\":\"delta\",\"n\":11,\"put\":[[0,[[\"r\",1],{\"k\":1}]]],\"removed\":[],\"version\":3,\"view\":0}";
-    assert_eq!(rt; written(alloc, 11, 3, changed)?.as_str(), want);
-    Ok(())
-}
-
 fn one_key(alloc: Global) -> Result<Keys, Memory> {
     let mut path = Listed::new(alloc);
     path.push(Cell::Words(Text::from_str(alloc, "x")?))?;
@@ -356,41 +165,26 @@ fn one_key(alloc: Global) -> Result<Keys, Memory> {
 fn a_header_and_a_removed_key_are_written(rt: HostRuntime) -> Result<(), Fail> {
     let alloc = rt.alloc();
     let delta = Delta {
-        from: mark(1, 0),
-        to: mark(3, 2),
+        from: Mark {
+            version: 1,
+            edit: 0,
+        },
+        to: Mark {
+            version: 3,
+            edit: 2,
+        },
         removed: one_key(alloc)?,
         puts: Puts::from_listed(Listed::new(alloc)),
         header: Some(header(alloc)?),
     };
     let want =
         "{\"edit\":2,\"from\":[1,0],\"header\":[[\"k\",\"integer\"],[\"v\",\"integer\"]],\"is\":\"delta\",\"n\":9,\"put\":[],\"removed\":[[\"g\",\"x\"]],\"version\":3,\"view\":4}";
-    let body = Body::Delta { delta, view: 4 };
-    assert_eq!(rt; written(alloc, 9, 3, body)?.as_str(), want);
-    Ok(())
-}
-
-fn one_row(alloc: Global) -> Result<ShownRows, Memory> {
-    let mut rows = Listed::new(alloc);
-    rows.push(whole_row(alloc, 1, Some(1))?)?;
-    Ok(ShownRows::from_listed(rows))
-}
-
-#[test]
-fn a_resynchronisation_is_written(rt: HostRuntime) -> Result<(), Fail> {
-    let alloc = rt.alloc();
-    let shown = Shown {
-        header: header(alloc)?,
-        rows: one_row(alloc)?,
+    let reply = Reply {
+        n: 9,
+        version: delta.to.version,
+        body: Body::Delta { delta, view: 4 },
     };
-    let body = Body::Resync {
-        bound: 0,
-        edit: 0,
-        shown,
-        view: 0,
-    };
-    let want =
-        "{\"bound\":0,\"edit\":0,\"header\":[[\"k\",\"integer\"],[\"v\",\"integer\"]],\"is\":\"resync\",\"n\":7,\"rows\":[[[\"r\",1],{\"k\":1,\"v\":1}]],\"version\":1,\"view\":0}";
-    assert_eq!(rt; written(alloc, 7, 1, body)?.as_str(), want);
+    assert_eq!(rt; write_reply(alloc, &reply)?.as_str(), want);
     Ok(())
 }
 
@@ -441,20 +235,19 @@ fn kinds_and_escapes_are_written(rt: HostRuntime) -> Result<(), Fail> {
         header,
         rows: ShownRows::from_listed(rows),
     };
-    let reply = written(
-        alloc,
-        7,
-        2,
-        Body::Rows {
+    let reply = Reply {
+        n: 7,
+        version: 2,
+        body: Body::Rows {
             edit: 1,
             from: 3,
             shown,
             size: 9,
             view: 4,
         },
-    )?;
+    };
     let want =
         "{\"edit\":1,\"from\":3,\"header\":[[\"\\\"\\\\\\n\\u0001é\",\"datetime\"]],\"is\":\"rows\",\"n\":7,\"rows\":[[[\"g\",null,true,-4,[\"d\",\"1970-01-01\"],[\"t\",1500],\"x\"],true,{\"b\":false,\"d\":[\"d\",\"9999-12-31\"],\"f\":[-1,3],\"m\":9007199254740991,\"n\":[\"i\",\"-9007199254740992\"],\"t\":[\"t\",-1],\"w\":\"\\\"\\\\\\n\\u0001é\"}]],\"size\":9,\"version\":2,\"view\":4}";
-    assert_eq!(rt; reply.as_str(), want);
+    assert_eq!(rt; write_reply(alloc, &reply)?.as_str(), want);
     Ok(())
 }

@@ -21,6 +21,3 @@ mod views;
 
 pub use hub::Hub;
 pub use local::LocalCaller;
-
-#[cfg(test)]
-mod tests;

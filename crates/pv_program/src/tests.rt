@@ -1,9 +1,7 @@
-use crate::ends::{Input, Output};
 use crate::top::pv_main;
 use cell_core::{Bytes, Listed, Memory};
-use io_ends::{Calls, MemSink, MemSource, Sink, Source};
+use io_ends::{Calls, MemSink, MemSource};
 use std::alloc::Global;
-use std::io::{self, ErrorKind, Read, Write};
 use std::test::Fail;
 
 const FIRST: &str = r#"{"op":"table","columns":[["k","integer"],["v","integer"]],"index":"k"}
@@ -97,56 +95,5 @@ fn other_words_read_and_write_nothing(rt: HostRuntime) -> Result<(), Fail> {
         2
     );
     assert!(rt; sink.bytes().is_empty());
-    Ok(())
-}
-
-/// An outside whose first calls a signal interrupts.
-#[derive(Drop)]
-struct Outside {
-    interruptions: u32,
-}
-
-impl Outside {
-    fn called(&mut self) -> io::Result<()> {
-        if self.interruptions == 0 {
-            return Ok(());
-        }
-        self.interruptions -= 1;
-        Err(ErrorKind::Interrupted.into())
-    }
-}
-
-impl Read for Outside {
-    fn read(&mut self, piece: &mut [u8]) -> io::Result<usize> {
-        self.called()?;
-        if piece.is_empty() {
-            return Ok(0);
-        }
-        piece[0] = b'x';
-        Ok(1)
-    }
-}
-
-impl Write for Outside {
-    fn write(&mut self, piece: &[u8]) -> io::Result<usize> {
-        self.called()?;
-        Ok(piece.len())
-    }
-
-    fn flush(&mut self) -> io::Result<()> {
-        self.called()
-    }
-}
-
-#[test]
-fn interrupted_calls_are_made_again(rt: HostRuntime) -> Result<(), Fail> {
-    let mut piece = [0; 4];
-    let mut input = Input::new(Outside { interruptions: 2 });
-    assert_eq!(rt; input.read(&mut piece), Ok(1));
-    assert_eq!(rt; piece[0], b'x');
-    let mut output = Output::new(Outside { interruptions: 2 });
-    assert_eq!(rt; output.write(b"ab"), Ok(2));
-    let mut output = Output::new(Outside { interruptions: 2 });
-    assert_eq!(rt; output.flush(), Ok(()));
     Ok(())
 }
