@@ -1,6 +1,6 @@
 mod Texts
 mod TwoRows
-mod Columns
+mod Fronts
 mod Dates
 mod Floats
 mod Pairs

@@ -1,4 +1,5 @@
 pub mod Building
 pub mod Parsing
+pub mod Parts
 pub mod Replies
 pub mod Requests

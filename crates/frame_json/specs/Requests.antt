@@ -1,13 +1,10 @@
 -- The request that a line is.
-use Rattle.std.specs.Prelude.{ℕ, ◌+◌, ℤ, pos, negsuc, List, [], ◌∷◌, length, codes, Bool, true, false, ◌&&◌, ◌||◌, nat_lt, nat_le, if◌then◌else◌, Option, Some, None, is_some, option_map, option_and_then}
+use Rattle.std.specs.Prelude.{ℕ, ℤ, pos, negsuc, List, [], ◌∷◌, length, codes, Bool, true, false, ◌&&◌, ◌||◌, nat_lt, nat_le, if◌then◌else◌, Option, Some, None, option_map, option_and_then}
 use Rattle.std.specs.List.{list_any}
 use Rattle.std.specs.Str.{bytes_eq}
-use Rattle.serde_json.specs.Data.{Data, null, boolean, number, string, array, object, Items, no_items, item, Members, no_members, member}
-use Rattle.serde_json.specs.Find.{get_member, as_number, as_str, as_array, as_object, as_i64}
-use Rattle.cal_units.specs.Calendar.{is_moment}
-use Rattle.cal_units.specs.DateText.{date_of}
+use Rattle.serde_json.specs.Data.{Data, boolean, number, array, object, Items, no_items, item, Members, no_members, member}
+use Rattle.serde_json.specs.Find.{get_member, as_str, as_array, as_object}
 use Rattle.cell_core.specs.declared.schema.ColumnWords.{ColumnWords}
-use Rattle.row_batch.specs.Checks.{is_integer}
 use Rattle.frame_types.specs.Asks.{Ask}
 use Rattle.frame_types.specs.Asks as ask
 use Rattle.frame_types.specs.Limits.{max_line, max_bound, max_depth, client_sessions}
@@ -15,14 +12,11 @@ use Rattle.frame_types.specs.declared.request.FrameCause.{FrameCause}
 use Rattle.frame_types.specs.declared.request.FrameCause.TheVariants as cause
 use Rattle.json_rows.specs.RawOf.{raw_data}
 use Rattle.frame_json.specs.Parsing.{json_of}
+use Rattle.frame_json.specs.Parts.{whole_of, path_of}
 use Rattle.frame_json.specs.declared.op.Op.{Op}
 use Rattle.frame_json.specs.declared.op.Op.TheVariants as op
 
 -- ---- members
-
--- a whole number of 64 bits with a sign
-abbrev pub whole_of : Data → Option ℤ
-whole_of d = option_and_then as_i64 (as_number d)
 
 abbrev pub at_least_0 : ℤ → Option ℕ
 at_least_0 (pos n) = Some n
@@ -87,53 +81,6 @@ columns_of (item d ds) = option_and_then (λ c. option_map (λ cs. c ∷ cs) (co
 abbrev pub columns : Members → Option (List ColumnWords)
 columns ms = option_and_then columns_of (option_and_then as_array (get_member (codes "columns") ms))
 
--- ---- paths
-
-abbrev pub holds : {X : Type 0} → (X → Bool) → Option X → Bool
-holds test None = false
-holds test (Some x) = test x
-
--- `["d","YYYY-MM-DD"]`
-abbrev pub names_day : List ℕ → Data → Bool
-names_day letter (string s) = bytes_eq letter (codes "d") && is_some (date_of s)
-names_day letter other = false
-
--- `["t",milliseconds]`
-abbrev pub names_moment : List ℕ → Data → Bool
-names_moment letter (number n) = bytes_eq letter (codes "t") && holds is_moment (as_i64 n)
-names_moment letter other = false
-
-abbrev pub is_tagged : Data → Data → Bool
-is_tagged (string letter) d = names_day letter d || names_moment letter d
-is_tagged other d = false
-
-abbrev pub is_tagged_pair : Items → Bool
-is_tagged_pair no_items = false
-is_tagged_pair (item a no_items) = false
-is_tagged_pair (item a (item b no_items)) = is_tagged a b
-is_tagged_pair (item a (item b (item c ds))) = false
-
--- a value of a group's path: null, a boolean, a whole number, a text, a date or a datetime
-abbrev pub is_part : Data → Bool
-is_part null = true
-is_part (boolean b) = true
-is_part (number n) = holds is_integer (as_i64 n)
-is_part (string s) = true
-is_part (array ds) = is_tagged_pair ds
-is_part (object ms) = false
-
-abbrev pub are_parts : Items → Bool
-are_parts no_items = true
-are_parts (item d ds) = is_part d && are_parts ds
-
-abbrev pub count_items : Items → ℕ
-count_items no_items = 0
-count_items (item d ds) = count_items ds + 1
-
-abbrev pub is_path : Data → Bool
-is_path (array ds) = nat_le (count_items ds) max_depth && are_parts ds
-is_path other = false
-
 -- ---- each form
 
 abbrev pub table_of : Members → Option Ask
@@ -187,11 +134,9 @@ edit_of ms = unbuilt (option_and_then (λ v. get_member (codes "plan") ms) (view
 abbrev pub depth_of : Members → Option Ask
 depth_of ms = unbuilt (option_and_then (λ v. option_and_then (up_to max_depth) (natural (codes "depth") ms)) (view_of ms))
 
-abbrev pub if_path : Data → Option Data
-if_path d = if is_path d then Some d else None
-
-abbrev pub path_of : Members → Option Ask
-path_of ms = unbuilt (option_and_then (λ v. option_and_then if_path (get_member (codes "path") ms)) (view_of ms))
+-- `expand` and `collapse`
+abbrev pub opening_of : Members → Option Ask
+opening_of ms = unbuilt (option_and_then (λ v. option_and_then path_of (get_member (codes "path") ms)) (view_of ms))
 
 -- the request of an object whose members all belong to its form
 abbrev pub ask_of : Op → Members → Option Ask
@@ -209,8 +154,8 @@ ask_of op.Apply ms = option_map ask.apply (port_of ms)
 ask_of op.Open ms = open_of ms
 ask_of op.Edit ms = edit_of ms
 ask_of op.Depth ms = depth_of ms
-ask_of op.Expand ms = path_of ms
-ask_of op.Collapse ms = path_of ms
+ask_of op.Expand ms = opening_of ms
+ask_of op.Collapse ms = opening_of ms
 ask_of op.Take ms = take_of ms
 ask_of op.Rows ms = rows_of ms
 ask_of op.Close ms = option_map ask.close (view_of ms)

@@ -1,14 +1,14 @@
 ghost use Rattle.std.specs.Prelude.{◌≡◌, IfOk, option_map};
 ghost use Rattle.serde_json.specs.View.{view, members_view};
 ghost use Rattle.frame_types.specs.Asks.{request_view};
-ghost use Rattle.frame_json.specs.Requests.{table_of, port_of, view_of, update_of, replace_of, csv_of, list_of, remove_of, open_of, edit_of, depth_of, path_of, take_of, rows_of, ask_of};
+ghost use Rattle.frame_json.specs.Requests.{table_of, port_of, view_of, update_of, replace_of, csv_of, list_of, remove_of, open_of, edit_of, depth_of, opening_of, take_of, rows_of, ask_of};
 
 use crate::member::{
     Members, bound_at, columns_at, member, natural_at, taken, wait_at, whole_if_given, words_at,
     words_if_given,
 };
 use crate::op::Op;
-use crate::path::is_path;
+use crate::part::path_of;
 use cell_core::{Memory, Text};
 use frame_types::{FrameCause, MAX_DEPTH, Request};
 use json_rows::raw_of;
@@ -35,7 +35,7 @@ pub(crate) fn requested(alloc: Global, op: Op, members: Members) -> Result<Optio
         Op::Open => open(alloc, members),
         Op::Edit => Ok(edit(&members)),
         Op::Depth => Ok(depth(&members)),
-        Op::Expand | Op::Collapse => Ok(path(&members)),
+        Op::Expand | Op::Collapse => opening(alloc, &members),
         Op::Take => Ok(take(&members)),
         Op::Rows => Ok(rows(&members)),
         Op::Close => Ok(view_at(&members).map(|view| Request::Close { view })),
@@ -191,13 +191,13 @@ fn depth(members: &Members) -> Option<Request>
 }
 
 /// `expand` and `collapse`.
-fn path(members: &Members) -> Option<Request>
-    ensures { option_map request_view result ≡ path_of (members_view members.now.entries) }
+fn opening(alloc: Global, members: &Members) -> Result<Option<Request>, Memory>
+    ensures { IfOk result (λ found. option_map request_view found
+        ≡ opening_of (members_view members.now.entries)) }
 {
-    let _view = view_at(members)?;
-    let path = member(members, "path")?;
-    if !is_path(path) {
-        return None;
-    }
-    Some(Request::Unread(FrameCause::Unbuilt))
+    let (Some(_view), Some(path)) = (view_at(members), member(members, "path")) else {
+        return Ok(None);
+    };
+    let path = path_of(alloc, path)?;
+    Ok(path.map(|_path| Request::Unread(FrameCause::Unbuilt)))
 }

@@ -11,11 +11,9 @@ mod forms;
 mod member;
 mod op;
 mod parse;
-mod path;
+mod part;
 mod read;
 mod show;
-#[cfg(test)]
-mod tests;
 mod write;
 
 pub use read::read_request;

@@ -1,7 +1,8 @@
 ghost use Rattle.std.specs.Prelude.{◌≡◌, ◌<◌, IfOk, IfSome, codes, option_map};
 ghost use Rattle.serde_json.specs.Find.{get_member, as_str};
 ghost use Rattle.serde_json.specs.View.{view, items_view, members_view};
-ghost use Rattle.frame_json.specs.Requests.{whole_of, natural_of, natural, words, optional, bound_of, wait_of, session_of, words_of, pair_of, column_of, columns_of, columns};
+ghost use Rattle.frame_json.specs.Parts.{whole_of};
+ghost use Rattle.frame_json.specs.Requests.{natural_of, natural, words, optional, bound_of, wait_of, session_of, words_of, pair_of, column_of, columns_of, columns};
 
 use cell_core::{ColumnWords, Columns, Listed, Memory, Text};
 use frame_types::{CLIENT_SESSIONS, MAX_BOUND};

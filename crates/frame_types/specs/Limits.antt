@@ -17,6 +17,6 @@ max_depth = 8
 abbrev pub client_sessions : ℕ
 client_sessions = 64
 
--- all sessions are: 64 is the pump, and 65 stops the desk
+-- all sessions are; 64 is for applying batches that wait, and 65 for ending what serves
 abbrev pub sessions : ℕ
 sessions = 66

@@ -10,6 +10,6 @@ pub const MAX_DEPTH: u64 = 8;
 /// The number of sessions that clients have. They are numbered from 0.
 pub const CLIENT_SESSIONS: u32 = 64;
 
-/// The number of all sessions. Session 64 is the pump, which applies batches that wait, and session 65 is that
-/// of whoever stops the desk.
+/// The number of all sessions. Two are of no client: session 64 is for applying batches that wait, and session 65 for
+/// ending what serves.
 pub const SESSIONS: usize = 66;

@@ -69,16 +69,27 @@ fn refused(at: usize, cause: TreeCause) -> Result<CellType, TreeRefused> {
     Err(TreeRefused { at, cause })
 }
 
+/// The sum of two columns.
+fn added(alloc: Global, a: &str, b: &str) -> Result<Tree, Memory> {
+    plus(alloc, 4, column(alloc, 0, a)?, column(alloc, 6, b)?)
+}
+
 #[test]
 fn the_first_fault_counts(rt: HostRuntime) -> Result<(), Fail> {
     let alloc = rt.alloc();
-    let mixed = plus(alloc, 4, column(alloc, 0, "v")?, words(alloc, 6, "a")?)?;
-    let both = plus(alloc, 4, column(alloc, 0, "w")?, column(alloc, 6, "x")?)?;
-    let argument = call_one(alloc, "nope", column(alloc, 5, "x")?)?;
-    let name = call_one(alloc, "nope", number(5))?;
+    let mixed = added(alloc, "v", "s")?;
     assert_eq!(rt; checked(alloc, mixed)?, refused(4, TreeCause::BadType));
+    let both = added(alloc, "w", "x")?;
     assert_eq!(rt; checked(alloc, both)?, refused(0, TreeCause::Unknown));
+    Ok(())
+}
+
+#[test]
+fn arguments_come_before_the_name(rt: HostRuntime) -> Result<(), Fail> {
+    let alloc = rt.alloc();
+    let argument = call_one(alloc, "nope", column(alloc, 5, "x")?)?;
     assert_eq!(rt; checked(alloc, argument)?, refused(5, TreeCause::Unknown));
+    let name = call_one(alloc, "nope", number(5))?;
     assert_eq!(rt; checked(alloc, name)?, refused(0, TreeCause::Unknown));
     Ok(())
 }

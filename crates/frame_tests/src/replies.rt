@@ -1,124 +1,12 @@
-use crate::{read_request, write_reply};
 use cell_core::{Cell, Day, Fraction, Listed, Memory, Moment, Text, Value};
 use delta_core::{Delta, Keys, Mark, Puts};
-use frame_types::{Body, FrameCause, Reply, Request};
+use frame_json::write_reply;
+use frame_types::{Body, Reply};
 use std::alloc::Global;
 use std::test::Fail;
 use view_types::{
     Header, HeaderColumn, Shown, ShownCells, ShownRow, ShownRows, ShownType, ViewKey,
 };
-
-fn form(request: &Request) -> &'static str {
-    match request {
-        Request::Table { .. } => "table",
-        Request::Port => "port",
-        Request::Leave => "leave",
-        Request::Info => "info",
-        Request::Update { .. } => "update",
-        Request::Replace { .. } => "replace",
-        Request::Csv { .. } => "csv",
-        Request::Remove { .. } => "remove",
-        Request::Clear { .. } => "clear",
-        Request::ClosePort { .. } => "close_port",
-        Request::Apply { .. } => "apply",
-        Request::Open { .. } => "open",
-        Request::Take { wait: false, .. } => "take",
-        Request::Take { wait: true, .. } => "take, waiting",
-        Request::Rows { .. } => "rows",
-        Request::Close { .. } => "close",
-        Request::Unread(cause) => cause_name(*cause),
-    }
-}
-
-fn cause_name(cause: FrameCause) -> &'static str {
-    match cause {
-        FrameCause::Long => "long",
-        FrameCause::Json => "json",
-        FrameCause::Object => "object",
-        FrameCause::Op => "no op",
-        FrameCause::Member => "member",
-        FrameCause::Unbuilt => "unbuilt",
-    }
-}
-
-/// The form of a line, and the session that asks it.
-fn read(alloc: Global, line: &[u8], scripted: bool) -> Result<(&'static str, u32), Memory> {
-    let asked = read_request(alloc, line, scripted)?;
-    Ok((form(&asked.request), asked.session))
-}
-
-#[test]
-fn lines_are_read(rt: HostRuntime) -> Result<(), Fail> {
-    let lines: [(&[u8], &str); 35] = [
-        (
-            b"{\"op\":\"table\",\"columns\":[[\"k\",\"integer\"],[\"v\",\"date\"]],\"index\":\"k\"}",
-            "table",
-        ),
-        (b"{\"op\":\"table\",\"columns\":[],\"limit\":-3}", "table"),
-        (b"{\"op\":\"port\"}", "port"),
-        (b"{\"op\":\"update\",\"port\":0,\"rows\":null}", "update"),
-        (b"{\"op\":\"replace\",\"port\":0,\"rows\":{}}", "replace"),
-        (b"{\"op\":\"csv\",\"port\":0,\"text\":\"\"}", "csv"),
-        (b"{\"op\":\"remove\",\"port\":0,\"keys\":[null]}", "remove"),
-        (b"{\"op\":\"clear\",\"port\":1}", "clear"),
-        (b"{\"op\":\"close_port\",\"port\":1}", "close_port"),
-        (b"{\"op\":\"apply\",\"port\":0}", "apply"),
-        (b"{\"op\":\"open\",\"plan\":7,\"bound\":65536}", "open"),
-        (
-            b" {\"to\":9,\"from\":0,\"view\":3,\"op\":\"rows\"} ",
-            "rows",
-        ),
-        (b"{\"op\":\"close\",\"view\":3}", "close"),
-        (b"{\"op\":\"leave\"}", "leave"),
-        (b"{\"op\":\"port\",\"op\":\"info\"}", "info"),
-        (b"7", "object"),
-        (b"[]", "object"),
-        (b"{}", "no op"),
-        (b"{\"op\":\"ports\",\"x\":1}", "no op"),
-        (b"{\"op\":\"port\",\"x\":1}", "member"),
-        (b"{\"op\":\"apply\"}", "member"),
-        (b"{\"op\":\"apply\",\"port\":-1}", "member"),
-        (b"{\"op\":\"apply\",\"port\":1.0}", "member"),
-        (b"{\"op\":\"open\",\"plan\":{},\"bound\":65537}", "member"),
-        (b"{\"op\":\"remove\",\"port\":0,\"keys\":{}}", "member"),
-        (b"{\"op\":\"take\",\"view\":0}", "take"),
-        (
-            b"{\"op\":\"take\",\"view\":0,\"wait\":true}",
-            "take, waiting",
-        ),
-        (b"{\"op\":\"take\",\"view\":0,\"wait\":1}", "member"),
-        (b"{\"op\":\"take\",\"view\":0,\"to\":1}", "member"),
-        (b"{\"op\":\"take\",\"wait\":true}", "member"),
-        (b"{\"op\":\"depth\",\"view\":0,\"depth\":9}", "member"),
-        (
-            b"{\"op\":\"expand\",\"view\":0,\"path\":[null,true,-1,\"x\",[\"d\",\"2024-02-29\"],[\"t\",0]]}",
-            "unbuilt",
-        ),
-        (
-            b"{\"op\":\"expand\",\"view\":0,\"path\":[[\"d\",\"2023-02-29\"]]}",
-            "member",
-        ),
-        (b"{\"op\":\"port\"", "json"),
-        (b"\"\xff\"", "json"),
-    ];
-    for (line, want) in lines {
-        assert_eq!(rt; read(rt.alloc(), line, false)?, (want, 0));
-    }
-    Ok(())
-}
-
-#[test]
-fn a_script_names_sessions(rt: HostRuntime) -> Result<(), Fail> {
-    let alloc = rt.alloc();
-    let last = b"{\"op\":\"port\",\"session\":63}";
-    assert_eq!(rt; read(alloc, last, true)?, ("port", 63));
-    assert_eq!(rt; read(alloc, last, false)?, ("member", 0));
-    let many = b"{\"op\":\"port\",\"session\":64}";
-    assert_eq!(rt; read(alloc, many, true)?, ("member", 0));
-    let unbuilt = b"{\"op\":\"depth\",\"session\":3,\"view\":0,\"depth\":8}";
-    assert_eq!(rt; read(alloc, unbuilt, true)?, ("unbuilt", 0));
-    Ok(())
-}
 
 #[test]
 fn lost_views_are_written(rt: HostRuntime) -> Result<(), Fail> {
