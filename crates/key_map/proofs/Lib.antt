@@ -1,0 +1,3 @@
+pub mod ByKey
+pub mod Keyed
+pub mod LookUps
