@@ -22,7 +22,7 @@ Touches = List (ViewKey × Bool)
 of_map : (P : (ViewKey → ViewKey → Ordering) → Type 0) → P key_order → P ghosts.cmp
 of_map P h = subst P (sym order.derived) h
 
-none_from_test : {X : Type 0} (o : Option X) → is_some o ≡ false → o ≡ None
+pub none_from_test : {X : Type 0} (o : Option X) → is_some o ≡ false → o ≡ None
 none_from_test None h = refl
 none_from_test (Some x) h = absurd (let wrong : true ≡ false = h in cc)
 
@@ -99,17 +99,8 @@ over_stays bound all ts over =
 pub over_known : (bound : ℕ) (all ts : Touches) (over : Bool) → over ≡ true → over ≡ (dirty_of bound all false).over → true ≡ (dirty_of bound (joined all ts) false).over
 over_known bound all ts over is is_over = sym (over_stays bound all ts (sym is ∙ is_over))
 
-pub none_known : (bound : ℕ) (all ts known : Touches) (over : Bool) → known ≡ [] → over ≡ true → over ≡ (dirty_of bound all false).over → known ≡ (dirty_of bound (joined all ts) false).keys
-none_known bound all ts known over empty is is_over =
-    let stays = over_stays bound all ts (sym is ∙ is_over) in
-    empty ∙ sym (ap (λ b. cond b [] (joined all ts)) stays)
-
-pub all_known : (bound : ℕ) (all known : Touches) (over : Bool) → over ≡ false → over ≡ (dirty_of bound all false).over → known ≡ (dirty_of bound all false).keys → known ≡ all
-all_known bound all known over is is_over known_is = known_is ∙ ap (λ b. cond b [] all) (sym is_over ∙ is)
-
-pub joined_set : (d : DirtyData) (keys ts known : Touches) (over header touched : Bool) → d ≡ dirty_of d.bound keys header
-    → known ≡ (dirty_of d.bound (joined keys ts) false).keys → over ≡ (dirty_of d.bound (joined keys ts) false).over
-    → record { bound = d.bound; keys = known; over = over; header = d.header || touched } ≡ dirty_of d.bound (joined keys ts) (header || touched)
-joined_set d keys ts known over header touched is known_is over_is =
-    let headers : d.header ≡ header = ap (λ (z : DirtyData). z.header) is in
-    λ i. record { bound = d.bound; keys = known_is i; over = over_is i; header = headers i || touched }
+pub none_known : (bound : ℕ) (all ts known : Touches) (over : Bool) → over ≡ true → over ≡ (dirty_of bound all false).over → known ≡ (dirty_of bound all false).keys
+    → known ≡ (dirty_of bound (joined all ts) false).keys
+none_known bound all ts known over is is_over known_is =
+    let none : known ≡ [] = known_is ∙ ap (λ b. cond b [] all) (sym is_over ∙ is) in
+    none ∙ sym (ap (λ b. cond b [] (joined all ts)) (over_stays bound all ts (sym is ∙ is_over)))

@@ -1,8 +1,11 @@
 pub mod DirtyMaps
 pub mod DistinctRows
+pub mod FoldChecks
 pub mod FoldRows
+pub mod GapMoves
 pub mod KeyLemmas
 pub mod KeySetLemmas
 pub mod PutRows
 pub mod Rests
 pub mod ShownKeys
+pub mod TakenOut

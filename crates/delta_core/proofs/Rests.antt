@@ -18,8 +18,7 @@ use Rattle.delta_core.specs.Laws.{Agree, Ascends, DeltasRestore, FoldsTo, IsOneW
 use Rattle.delta_core.specs.Rows.{at_key, has_row}
 use Rattle.delta_core.specs.declared.delta.Mark.{Mark}
 use Rattle.delta_core.specs.declared.delta.Put.{Put}
-use Rattle.view_types.proofs.KeyOrder.{same_key_is_equal, same_key_itself}
-use Rattle.delta_core.proofs.KeyLemmas.{same_key-symm, same_key-other}
+use Rattle.view_types.proofs.KeyOrder.{same_key_is_equal, same_key_itself, same_key-other, same_key-symm}
 
 -- ---- parts of a list
 
@@ -212,7 +211,7 @@ removes was now k shown (e ∷ keys) marked =
     (λ same. All-head (λ (e : Flagged). e.1 ≡ has_row e.0 was) e keys marked ∙ ap (λ j. has_row j was) (sym same) ∙ shown)
     (removes was now k shown keys (All-tail (λ (e : Flagged). e.1 ≡ has_row e.0 was) e keys marked))
 
-has_row-step : (k : ViewKey) (r : ShownRow) (rows : List ShownRow) → has_row k (r ∷ rows) ≡ (same_key k r.key || has_row k rows)
+pub has_row-step : (k : ViewKey) (r : ShownRow) (rows : List ShownRow) → has_row k (r ∷ rows) ≡ (same_key k r.key || has_row k rows)
 has_row-step k r rows = at_side (same_key r.key k) refl
   where
     at_side : (b : Bool) → same_key r.key k ≡ b → has_row k (r ∷ rows) ≡ (same_key k r.key || has_row k rows)

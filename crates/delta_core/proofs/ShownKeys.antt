@@ -28,10 +28,6 @@ any_has k (r ∷ rows) =
       | false ↦ any_has k rows
     ]
 
-pub any-map : {X Y : Type 0} (f : X → Y) (p : Y → Bool) (xs : List X) → list_any p (map f xs) ≡ list_any (λ x. p (f x)) xs
-any-map f p [] = refl
-any-map f p (x ∷ xs) = λ i. p (f x) || any-map f p xs i
-
 -- ---- the position of the first row with a key
 
 one_less : (q n : ℕ) (b : Bool) → ltb q n ≡ b → cond (ltb (suc q) (suc n)) (Some (suc q)) None ≡ option_map (λ i. i + 1) (cond b (Some q) None)

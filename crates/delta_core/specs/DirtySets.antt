@@ -1,7 +1,8 @@
 -- The keys that steps touched since some mark.
 use Rattle.std.specs.Prelude.{ℕ, nat_lt, List, [], ◌∷◌, length, fold, Bool, true, false, if◌then◌else◌}
+use Rattle.std.specs.Map.{remove_entry}
 use Rattle.std.specs.Ordering.{match_ordering}
-use Rattle.view_types.specs.Keys.{key_order}
+use Rattle.view_types.specs.Keys.{key_order, same_key}
 use Rattle.view_types.specs.declared.key.ViewKey.{ViewKey}
 
 -- what a dirty set keeps: the touched keys, each beside whether it was shown before the step that touched it
@@ -20,6 +21,11 @@ with_touched (e ∷ es) t = match_ordering (key_order t.0 e.0) (t ∷ e ∷ es) 
 -- the union of the keys touched so far and those touched by one step more
 abbrev pub joined : List (ViewKey × Bool) → List (ViewKey × Bool) → List (ViewKey × Bool)
 joined keys touched = fold with_touched keys touched
+
+-- what is left once these keys are taken out, the last of them first
+abbrev pub without : List ViewKey → List (ViewKey × Bool) → List (ViewKey × Bool)
+without [] touched = touched
+without (k ∷ ks) touched = remove_entry (same_key k) (without ks touched)
 
 -- the dirty set for all these keys
 abbrev pub dirty_of : ℕ → List (ViewKey × Bool) → Bool → DirtyData

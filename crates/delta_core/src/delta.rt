@@ -1,5 +1,6 @@
 use crate::keys::Keys;
 use cell_core::Listed;
+use std::fmt;
 use std::marker::Model;
 use view_types::{Header, ShownRow};
 
@@ -9,6 +10,12 @@ use view_types::{Header, ShownRow};
 pub struct Mark {
     pub version: u64,
     pub edit: u64,
+}
+
+impl fmt::Display for Mark {
+    fn fmt<W: fmt::Write>(&self, f: &mut fmt::Formatter<W>) -> fmt::Result {
+        write!(f, "version {}, edit {}", self.version, self.edit)
+    }
 }
 
 /// A row that a delta puts, and its position, counted from 0: in the whole list at the delta's end, and so in the

@@ -8,10 +8,9 @@ ghost use Rattle.delta_core.specs.Rows.{position_of, row_at};
 
 use crate::delta::{Delta, Mark};
 use crate::making::{puts_of, removed_of};
-use crate::touched::{Touched, touch};
+use crate::touched::{Touched, TouchedKeys};
 use cell_core::Memory;
 use std::alloc::Global;
-use std::collections::BTreeMap;
 use std::marker::Model;
 use view_types::{Header, ShownRow, ViewKey};
 
@@ -41,7 +40,7 @@ pub trait ShownNow {
 #[derive(Debug, Drop)]
 pub struct DirtySet {
     bound: u64,
-    keys: BTreeMap<ViewKey, bool>,
+    keys: TouchedKeys,
     over: bool,
     header: bool,
 }
@@ -51,7 +50,7 @@ impl Model for DirtySet {
 
     ghost Value = { DirtyData };
 
-    ghost view = { λ d. record { bound = d.bound; keys = d.keys.entries; over = d.over; header = d.header } };
+    ghost view = { λ d. record { bound = d.bound; keys = d.keys; over = d.over; header = d.header } };
 }
 
 impl DirtySet {
@@ -61,34 +60,26 @@ impl DirtySet {
     {
         DirtySet {
             bound,
-            keys: BTreeMap::new(alloc),
+            keys: TouchedKeys::new(alloc),
             over: false,
             header: false,
         }
     }
 
-    /// Joins what a step touched. After want of memory the set is as before. The joined keys are built beside
-    /// the old ones, so the time grows with the keys of the set.
+    /// Joins what a step touched, in the time of a look-up for each key that it touched. After want of memory
+    /// the set is as before.
     pub fn join(&mut self, alloc: Global, touched: &Touched) -> Result<(), Memory>
         ensures ok { (keys : List (ViewKey × Bool)) (header : Bool) → self.old ≡ dirty_of self.old.bound keys header
             → OnOk result (self.new ≡ dirty_of self.old.bound (joined keys touched.now.keys) (header || touched.now.header)) }
         ensures err { OnErr result (self.new ≡ self.old) }
     {
-        let (keys, over) = joined_keys(
-            alloc,
-            self.bound,
-            self.over,
-            &self.keys,
-            touched.keys.entries(),
-        )?;
-        self.keys = keys;
-        self.over = over;
+        self.over = join_keys(alloc, self.bound, self.over, &mut self.keys, &touched.keys)?;
         self.header |= touched.header;
         Ok(())
     }
 
     /// Whether more keys than the bound were joined.
-    pub fn over(&self) -> bool
+    pub fn is_over(&self) -> bool
         ensures over { result ≡ self.now.over }
         ensures count { (keys : List (ViewKey × Bool)) (header : Bool) → self.now ≡ dirty_of self.now.bound keys header
             → result ≡ nat_lt self.now.bound (length keys) }
@@ -97,12 +88,12 @@ impl DirtySet {
     }
 
     /// Whether a key was joined, or a step that touched the header.
-    pub fn any(&self) -> bool
-        ensures any { result ≡ (self.now.over || self.now.header || not (is_empty self.now.keys)) }
+    pub fn is_dirty(&self) -> bool
+        ensures known { result ≡ (self.now.over || self.now.header || not (is_empty self.now.keys)) }
         ensures joined { (keys : List (ViewKey × Bool)) (header : Bool) → self.now ≡ dirty_of self.now.bound keys header
             → result ≡ (not (is_empty keys) || header) }
     {
-        self.over || self.header || !self.keys.is_empty()
+        self.over || self.header || self.keys.len() > 0
     }
 
     /// Forgets all that was joined.
@@ -127,8 +118,8 @@ impl DirtySet {
         requires { self.now.over ≡ false }
         ensures { IfOk result (λ delta. delta ≡ delta_of self.now.keys self.now.header (V.shown view.now) from to) }
     {
-        let removed = removed_of(alloc, &self.keys, view)?;
-        let puts = puts_of(alloc, &self.keys, view)?;
+        let removed = removed_of(alloc, self.keys.entries(), view)?;
+        let puts = puts_of(alloc, self.keys.entries(), view)?;
         let header = if self.header {
             Some(view.header(alloc)?)
         } else {
@@ -144,65 +135,30 @@ impl DirtySet {
     }
 }
 
-/// What a set knows of its keys and those that a step touched, and whether they are more than the bound.
-fn joined_keys(
+/// Adds the keys that a step touched to those that a set knows, and forgets them all once they are more than the
+/// bound. The answer is whether they are.
+fn join_keys(
     alloc: Global,
     bound: u64,
     over: bool,
-    keys: &BTreeMap<ViewKey, bool>,
-    touched: &BTreeMap<ViewKey, bool>,
-) -> Result<(BTreeMap<ViewKey, bool>, bool), Memory>
+    keys: &mut TouchedKeys,
+    touched: &TouchedKeys,
+) -> Result<bool, Memory>
     ensures keys { (all : List (ViewKey × Bool)) → over ≡ (dirty_of bound all false).over
-        → keys.now.entries ≡ (dirty_of bound all false).keys
-        → IfOk result (λ known. known.0.entries ≡ (dirty_of bound (joined all touched.now.entries) false).keys) }
+        → keys.old ≡ (dirty_of bound all false).keys
+        → OnOk result (keys.new ≡ (dirty_of bound (joined all touched.now) false).keys) }
     ensures over { (all : List (ViewKey × Bool)) → over ≡ (dirty_of bound all false).over
-        → keys.now.entries ≡ (dirty_of bound all false).keys
-        → IfOk result (λ known. known.1 ≡ (dirty_of bound (joined all touched.now.entries) false).over) }
+        → keys.old ≡ (dirty_of bound all false).keys
+        → IfOk result (λ past. past ≡ (dirty_of bound (joined all touched.now) false).over) }
+    ensures err { OnErr result (keys.new ≡ keys.old) }
 {
     if over {
-        return Ok((BTreeMap::new(alloc), true));
+        return Ok(true);
     }
-    let all = union(alloc, keys, touched)?;
-    Ok(bounded(alloc, bound, all))
-}
-
-/// The keys, or none of them where they are more than the bound, and whether they are.
-fn bounded(
-    alloc: Global,
-    bound: u64,
-    keys: BTreeMap<ViewKey, bool>,
-) -> (BTreeMap<ViewKey, bool>, bool)
-    ensures keys { result.0.entries ≡ (dirty_of bound keys.entries false).keys }
-    ensures over { result.1 ≡ (dirty_of bound keys.entries false).over }
-{
+    keys.join(alloc, touched)?;
     if keys.len() as u64 > bound {
-        (BTreeMap::new(alloc), true)
-    } else {
-        (keys, false)
+        keys.clear();
+        return Ok(true);
     }
-}
-
-/// The union of the keys of a set and those that a step touched.
-fn union(
-    alloc: Global,
-    keys: &BTreeMap<ViewKey, bool>,
-    touched: &BTreeMap<ViewKey, bool>,
-) -> Result<BTreeMap<ViewKey, bool>, Memory>
-    ensures { IfOk result (λ all. all.entries ≡ joined keys.now.entries touched.now.entries) }
-{
-    let mut all = copied(alloc, keys)?;
-    for (key, was_shown) in touched {
-        touch(&mut all, key.copy(alloc)?, *was_shown)?;
-    }
-    Ok(all)
-}
-
-fn copied(alloc: Global, keys: &BTreeMap<ViewKey, bool>) -> Result<BTreeMap<ViewKey, bool>, Memory>
-    ensures { IfOk result (λ copy. copy.entries ≡ keys.now.entries) }
-{
-    let mut copy = BTreeMap::new(alloc);
-    for (key, was_shown) in keys {
-        drop(copy.insert(key.copy(alloc)?, *was_shown)?);
-    }
-    Ok(copy)
+    Ok(false)
 }

@@ -1,12 +1,14 @@
-ghost use Rattle.std.specs.Prelude.{◌≡◌, ◌≤◌, ◌∷◌, ◌++◌, length, take, drop, filter, find, fold as fold_list, not, option_copied, unwrap_or, IfOk, IfErr, OnOk};
-ghost use Rattle.std.specs.Option.{option_or};
-ghost use Rattle.delta_core.specs.Folding.{absent, drops as is_dropped, fold_fault, folded, folded_rows, gap, keys_put, past_end, put_in, RefusesFold};
+ghost use Rattle.std.specs.Prelude.{◌≡◌, ◌+◌, ◌<◌, ◌≤◌, ◌^◌, ◌++◌, length, filter, fold as fold_list, not, IfOk, IfErr};
+ghost use Rattle.delta_core.specs.Folding.{fold_fault, folded, past_end, put_in, RefusesFold};
 ghost use Rattle.delta_core.specs.KeySets.{is_among};
-ghost use Rattle.delta_core.specs.Rows.{has_row};
+ghost use Rattle.delta_core.specs.Preparing.{others, IsPrepared};
 
+use crate::checking::{KeySet, check_delta, dropped_keys, has};
 use crate::delta::{Delta, Mark, Put};
+use crate::gap::GapBuffer;
 use cell_core::{Copies, Listed, Memory};
 use std::alloc::Global;
+use std::fmt;
 use view_types::{Header, Shown, ShownRow, ShownRows, ViewKey};
 
 /// What a client holds of a view: what was shown at a mark.
@@ -28,6 +30,20 @@ pub enum FoldRefused {
     Memory,
 }
 
+impl fmt::Display for FoldRefused {
+    fn fmt<W: fmt::Write>(&self, f: &mut fmt::Formatter<W>) -> fmt::Result {
+        match self {
+            FoldRefused::Gap { have, got } => write!(
+                f,
+                "{have} is held, and the delta begins at {got}"
+            ),
+            FoldRefused::Absent(key) => write!(f, "a removed key isn't held: {key:?}"),
+            FoldRefused::Past(position) => write!(f, "a position past the end: {position}"),
+            FoldRefused::Memory => write!(f, "{}", Memory),
+        }
+    }
+}
+
 impl From<Memory> for FoldRefused {
     ghost use Rattle.std.specs.Prelude.{◌≡◌};
     ghost use Rattle.delta_core.specs.declared.folding.FoldRefused.TheVariants as refused;
@@ -43,67 +59,62 @@ impl From<Memory> for FoldRefused {
 /// in order at their positions, and takes the delta's header, where it has one, and its end as the mark.
 ///
 /// After a refusal the held value comes back as it was. The causes are tested in the order `Gap`, `Absent`,
-/// `Past`; want of memory may come in place of any answer. The new rows are built beside the held ones, and
-/// the time grows with the held rows times the keys of the delta.
+/// `Past`; want of memory may come in place of any answer. Held rows that stay are moved, and not copied. The time
+/// is that of a look-up for each held row and each key of the delta, where the positions of the puts ascend, as
+/// those of `DirtySet::make_delta` do.
 pub fn fold(alloc: Global, held: Held, delta: &Delta) -> Result<Held, (FoldRefused, Held)>
     ensures ok { IfOk result (λ now. (fold_fault held delta.now ≡ None) × (now ≡ folded held delta.now)) }
     ensures why { IfErr result (λ refused. RefusesFold (fold_fault held delta.now) refused.0) }
     ensures back { IfErr result (λ refused. refused.1 ≡ held) }
 {
-    match parts_of(alloc, &held, delta) {
-        Ok((header, rows)) => Ok(with_parts(held, header, rows, delta.to)),
+    match prepare(alloc, &held, delta) {
+        Ok(prepared) => Ok(fold_in(held, delta, prepared)),
         Err(why) => Err((why, held)),
     }
 }
 
-fn with_parts(held: Held, header: Option<Header>, rows: ShownRows, mark: Mark) -> Held
-    ensures { result ≡ record { shown = record { header = unwrap_or header held.shown.header; rows = rows }; mark = mark } }
-{
-    let Held { shown, mark: _ } = held;
-    let Shown {
-        header: before,
-        rows: _,
-    } = shown;
-    let header = header.unwrap_or(before);
-    Held {
-        shown: Shown { header, rows },
-        mark,
-    }
+/// What folding a delta takes memory for.
+#[derive(Drop)]
+pub(crate) struct Prepared {
+    /// The keys that the delta removes or puts.
+    dropped: KeySet,
+    header: Option<Header>,
+    puts: Vec<Put>,
+    /// No rows yet, with room for all that are held in the end.
+    rows: GapBuffer,
 }
 
-/// The delta's header and the rows after it, or the first cause against folding it.
-fn parts_of(
-    alloc: Global,
-    held: &Held,
-    delta: &Delta,
-) -> Result<(Option<Header>, ShownRows), FoldRefused>
-    ensures ok { IfOk result (λ parts. fold_fault held.now delta.now ≡ None) }
-    ensures header { IfOk result (λ parts. parts.0 ≡ delta.now.header) }
-    ensures rows { IfOk result (λ parts. parts.1 ≡ folded_rows held.now.shown.rows delta.now) }
+/// Checks a delta, and then takes all the memory that folding it needs.
+fn prepare(alloc: Global, held: &Held, delta: &Delta) -> Result<Prepared, FoldRefused>
+    ensures ok { IfOk result (λ p. fold_fault held.now delta.now ≡ None) }
+    ensures prepared { IfOk result (IsPrepared held.now delta.now) }
     ensures why { IfErr result (RefusesFold (fold_fault held.now delta.now)) }
 {
-    test_held(alloc, held, delta)?;
-    let kept = kept_rows(alloc, held.shown.rows.as_slice(), delta)?;
-    let rows = put_all(alloc, kept, delta.puts.as_slice())?;
+    let dropped = dropped_keys(alloc, delta)?;
+    let kept = check_delta(alloc, held, delta, &dropped)?;
+    let puts = delta.puts.as_slice();
+    let rows = GapBuffer::with_capacity(alloc, kept + puts.len())?;
+    let puts = copied(alloc, puts)?;
     let header = header_of(alloc, delta)?;
-    Ok((header, ShownRows::from_listed(Listed::from_vec(rows))))
+    Ok(Prepared {
+        dropped,
+        header,
+        puts,
+        rows,
+    })
 }
 
-/// Tests the mark, and then that each removed key is held.
-fn test_held(alloc: Global, held: &Held, delta: &Delta) -> Result<(), FoldRefused>
-    ensures ok { OnOk result (option_or (gap held.now delta.now) (absent held.now delta.now) ≡ None) }
-    ensures why { IfErr result (RefusesFold (option_or (gap held.now delta.now) (absent held.now delta.now))) }
+fn copied(alloc: Global, puts: &[Put]) -> Result<Vec<Put>, Memory>
+    ensures { IfOk result (λ copies. copies.items ≡ puts.now) }
 {
-    if held.mark != delta.from {
-        return Err(FoldRefused::Gap {
-            have: held.mark,
-            got: delta.from,
-        });
+    let mut copies = Vec::with_capacity(alloc, puts.len())?;
+    for put in puts {
+        copies.push(Put {
+            position: put.position,
+            row: put.row.copies(alloc)?,
+        })?;
     }
-    match first_absent(held.shown.rows.as_slice(), delta.removed.as_slice()) {
-        Some(key) => Err(FoldRefused::Absent(key.copy(alloc)?)),
-        None => Ok(()),
-    }
+    Ok(copies)
 }
 
 fn header_of(alloc: Global, delta: &Delta) -> Result<Option<Header>, Memory>
@@ -115,77 +126,54 @@ fn header_of(alloc: Global, delta: &Delta) -> Result<Option<Header>, Memory>
     }
 }
 
-/// The first removed key that no row has.
-fn first_absent<'d>(rows: &[ShownRow], removed: &'d [ViewKey]) -> Option<&'d ViewKey>
-    ensures { option_copied result ≡ find (λ k. not (has_row k rows.now)) removed.now }
+/// Folds a delta that was checked. It takes no memory.
+fn fold_in(held: Held, delta: &Delta, prepared: Prepared) -> Held
+    requires { IsPrepared held delta.now prepared }
+    ensures { result ≡ folded held delta.now }
 {
-    removed.iter().find(|key| !holds(rows, key))
+    let Prepared {
+        dropped,
+        header,
+        puts,
+        mut rows,
+    } = prepared;
+    let Held { shown, mark: _ } = held;
+    let Shown {
+        header: before,
+        rows: held_rows,
+    } = shown;
+    keep_others(&mut rows, held_rows.into_listed().into_vec(), &dropped);
+    put_all(&mut rows, puts);
+    let rows = ShownRows::from_listed(Listed::from_vec(rows.into_rows()));
+    Held {
+        shown: Shown {
+            header: header.unwrap_or(before),
+            rows,
+        },
+        mark: delta.to,
+    }
 }
 
-/// Whether a row has that key.
-pub(crate) fn holds(rows: &[ShownRow], key: &ViewKey) -> bool
-    ensures { result ≡ has_row key.now rows.now }
+/// Moves the rows whose keys aren't dropped to the end of a list.
+fn keep_others(rows: &mut GapBuffer, held: Vec<ShownRow>, dropped: &KeySet)
+    requires { length rows.old.rows + length (others dropped.now.keys held.items) ≤ rows.old.capacity }
+    ensures rows { rows.new.rows ≡ rows.old.rows ++ others dropped.now.keys held.items }
+    ensures capacity { rows.new.capacity ≡ rows.old.capacity }
 {
-    rows.iter().any(|row| row.key.order(key).is_eq())
-}
-
-/// Copies of the rows that the delta neither removes nor puts.
-fn kept_rows(alloc: Global, rows: &[ShownRow], delta: &Delta) -> Result<Vec<ShownRow>, Memory>
-    ensures { IfOk result (λ kept. kept.items ≡ filter (λ r. not (is_dropped delta.now r.key)) rows.now) }
-{
-    let mut kept = Vec::new(alloc);
-    for row in rows {
-        if !drops(delta, &row.key) {
-            kept.push(row.copies(alloc)?)?;
+    for row in held {
+        if !has(dropped, &row.key) {
+            rows.put(rows.len(), row);
         }
     }
-    Ok(kept)
 }
 
-/// Whether the delta removes or puts that key.
-fn drops(delta: &Delta, key: &ViewKey) -> bool
-    ensures { result ≡ is_dropped delta.now key.now }
-{
-    removes(delta, key) || puts(delta, key)
-}
-
-fn removes(delta: &Delta, key: &ViewKey) -> bool
-    ensures { result ≡ is_among delta.now.removed key.now }
-{
-    let mut removed = delta.removed.as_slice().iter();
-    removed.any(|other| key.order(other).is_eq())
-}
-
-fn puts(delta: &Delta, key: &ViewKey) -> bool
-    ensures { result ≡ is_among (keys_put delta.now.puts) key.now }
-{
-    let mut puts = delta.puts.as_slice().iter();
-    puts.any(|put| key.order(&put.row.key).is_eq())
-}
-
-/// The rows with copies of the puts inserted in order, or the first position past their end.
-fn put_all(
-    alloc: Global,
-    mut rows: Vec<ShownRow>,
-    puts: &[Put],
-) -> Result<Vec<ShownRow>, FoldRefused>
-    ensures ok { IfOk result (λ all. past_end rows.items puts.now ≡ None) }
-    ensures rows { IfOk result (λ all. all.items ≡ fold_list put_in rows.items puts.now) }
-    ensures why { IfErr result (RefusesFold (past_end rows.items puts.now)) }
+/// Puts rows in order at their positions.
+fn put_all(rows: &mut GapBuffer, puts: Vec<Put>)
+    requires room { length rows.old.rows + length puts.items ≤ rows.old.capacity }
+    requires within { past_end rows.old.rows puts.items ≡ None }
+    ensures { rows.new.rows ≡ fold_list put_in rows.old.rows puts.items }
 {
     for put in puts {
-        if put.position > rows.len() as u64 {
-            return Err(FoldRefused::Past(put.position));
-        }
-        put_row(&mut rows, put.position as usize, put.row.copies(alloc)?)?;
+        rows.put(put.position as usize, put.row);
     }
-    Ok(rows)
-}
-
-fn put_row(rows: &mut Vec<ShownRow>, position: usize, row: ShownRow) -> Result<(), Memory>
-    requires { position ≤ length rows.old.items }
-    ensures { OnOk result (rows.new.items ≡ take position rows.old.items ++ row ∷ drop position rows.old.items) }
-{
-    rows.insert(position, row)?;
-    Ok(())
 }

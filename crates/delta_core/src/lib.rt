@@ -8,9 +8,11 @@
 //! folding restores a view.
 #![tactic(auto)]
 
+mod checking;
 mod delta;
 mod dirty;
 mod folding;
+mod gap;
 mod keys;
 pub mod laws;
 mod making;

@@ -21,6 +21,7 @@ pub(crate) fn removed_of<V: ShownNow>(
 ) -> Result<Keys, Memory>
     ensures { IfOk result (λ removed. removed ≡ removed_keys keys.now.entries (V.shown view.now).rows) }
 {
+    // The keys ascend, as `len` says: so none of those that are gone stands twice.
     let _ascending = keys.len();
     let removed = gone(alloc, keys, view)?;
     Ok(Keys::from_listed(Listed::from_vec(removed)))

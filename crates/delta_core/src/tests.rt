@@ -1,8 +1,7 @@
 ghost use Rattle.std.specs.Prelude.{◌≡◌, false, position, option_copied, IfOk};
 ghost use Rattle.view_types.specs.Keys.{same_key};
-ghost use Rattle.delta_core.specs.Rows.{row_at};
+ghost use Rattle.delta_core.specs.Rows.{has_row, row_at};
 
-use crate::folding::holds;
 use crate::{Delta, DirtySet, Held, Keys, Mark, Put, Puts, ShownNow, Touched, TouchedKeys, fold};
 use cell_core::{Cell, Copies, Listed, Memory, Text, Value};
 use std::alloc::Global;
@@ -62,6 +61,13 @@ fn row_of(alloc: Global, key: i64) -> Result<ShownRow, Memory>
     })
 }
 
+/// Whether a row has that key.
+fn holds(rows: &[ShownRow], key: &ViewKey) -> bool
+    ensures { result ≡ has_row key.now rows.now }
+{
+    rows.iter().any(|row| row.key.order(key).is_eq())
+}
+
 /// The rows of these keys, none of which may stand twice.
 fn rows_of(alloc: Global, keys: &[i64]) -> Result<ShownRows, Fail> {
     let mut rows = Vec::new(alloc);
@@ -117,39 +123,12 @@ const END: Mark = Mark {
     edit: 1,
 };
 
-#[test]
-fn a_set_is_over_past_its_bound(rt: HostRuntime) -> Result<(), Fail> {
-    let alloc = rt.alloc();
-    let cases: [(u64, &[i64], bool); 7] = [
-        (0, &[], false),
-        (0, &[1], true),
-        (1, &[1], false),
-        (1, &[1, 1], false),
-        (1, &[1, 2], true),
-        (2, &[2, 1, 2], false),
-        (2, &[3, 1, 2, 1], true),
-    ];
-    for (bound, keys, over) in cases {
-        let mut set = DirtySet::make(alloc, bound);
-        for key in keys {
-            set.join(alloc, &touched(alloc, &[(*key, true)], false)?)?;
-        }
-        assert_eq!(rt; set.over(), over);
-        assert_eq!(rt; set.any(), !keys.is_empty());
-        set.clear();
-        assert!(rt; !set.over() && !set.any());
-        set.join(alloc, &touched(alloc, &[], true)?)?;
-        assert!(rt; !set.over() && set.any());
-    }
-    Ok(())
-}
-
 fn delta_to(alloc: Global, now: Shown, steps: &[Touched]) -> Result<Delta, Fail> {
     let mut set = DirtySet::make(alloc, 9);
     for step in steps {
         set.join(alloc, step)?;
     }
-    if set.over() {
+    if set.is_over() {
         return Err("too many keys".into());
     }
     Ok(set.make_delta(alloc, &Now { shown: now }, START, END)?)
@@ -197,6 +176,7 @@ fn one_row_put(alloc: Global, from: Mark, removed: i64, position: u64) -> Result
     })
 }
 
+/// Each cause is told in words, and the held value comes back.
 #[test]
 fn the_first_cause_refuses_a_delta(rt: HostRuntime) -> Result<(), Fail> {
     let alloc = rt.alloc();
@@ -204,10 +184,10 @@ fn the_first_cause_refuses_a_delta(rt: HostRuntime) -> Result<(), Fail> {
         (
             END,
             9,
-            "Gap { have: Mark { version: 3, edit: 1 }, got: Mark { version: 5, edit: 1 } }",
+            "version 3, edit 1 is held, and the delta begins at version 5, edit 1",
         ),
-        (START, 9, "Absent(Row(Int(9)))"),
-        (START, 2, "Past(2)"),
+        (START, 9, "a removed key isn't held: Row(Int(9))"),
+        (START, 2, "a position past the end: 2"),
     ];
     for (from, removed, expected) in cases {
         let held = Held {
@@ -217,7 +197,7 @@ fn the_first_cause_refuses_a_delta(rt: HostRuntime) -> Result<(), Fail> {
         let Err((why, back)) = fold(alloc, held, &one_row_put(alloc, from, removed, 2)?) else {
             return Err("folded".into());
         };
-        let text = format!(in alloc; "{why:?}")?;
+        let text = format!(in alloc; "{why}")?;
         assert_eq!(rt; text.as_str(), expected);
         let before = shown_of(alloc, "v", &[2, 1])?;
         assert!(rt; back.mark == START && is_shown(&back.shown, &before));

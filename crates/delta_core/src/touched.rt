@@ -1,5 +1,5 @@
-ghost use Rattle.std.specs.Prelude.{◌≡◌, [], OnOk, OnErr};
-ghost use Rattle.delta_core.specs.DirtySets.{with_touched};
+ghost use Rattle.std.specs.Prelude.{◌≡◌, [], length, map, OnOk, OnErr};
+ghost use Rattle.delta_core.specs.DirtySets.{joined, with_touched, without};
 
 use cell_core::Memory;
 use std::alloc::Global;
@@ -7,11 +7,14 @@ use std::collections::BTreeMap;
 use std::marker::Model;
 use view_types::ViewKey;
 
+/// Keys, each beside whether it was shown.
+type Entries = BTreeMap<ViewKey, bool>;
+
 /// The keys that a step touched, each beside whether it was shown before the step. They ascend by the order
 /// of keys, and none stands twice.
 #[derive(Debug, Drop)]
 pub struct TouchedKeys {
-    entries: BTreeMap<ViewKey, bool>,
+    entries: Entries,
 }
 
 impl Model for TouchedKeys {
@@ -28,7 +31,7 @@ impl TouchedKeys {
         ensures { result ≡ [] }
     {
         TouchedKeys {
-            entries: BTreeMap::new(alloc),
+            entries: Entries::new(alloc),
         }
     }
 
@@ -47,6 +50,33 @@ impl TouchedKeys {
     {
         &self.entries
     }
+
+    /// Adds the keys of a further step, in the time of a look-up for each of them. Want of memory is the only
+    /// refusal, and then nothing changed: what was added by then is taken out again.
+    pub(crate) fn join(&mut self, alloc: Global, more: &TouchedKeys) -> Result<(), Memory>
+        ensures ok { OnOk result (self.new ≡ joined self.old more.now) }
+        ensures err { OnErr result (self.new ≡ self.old) }
+    {
+        let mut added = Vec::new(alloc);
+        let all = add_all(alloc, &mut self.entries, &mut added, &more.entries);
+        if all.is_err() {
+            take_out(&mut self.entries, added);
+        }
+        all
+    }
+
+    pub(crate) fn len(&self) -> usize
+        ensures { result ≡ length self.now }
+    {
+        self.entries.len()
+    }
+
+    /// Forgets all keys.
+    pub(crate) fn clear(&mut self)
+        ensures { self.new ≡ [] }
+    {
+        self.entries.clear();
+    }
 }
 
 /// What a step touched in a view.
@@ -58,17 +88,62 @@ pub struct Touched {
 }
 
 /// Puts a key in its place, with whether it was shown. A key that is there stays as it is.
-pub(crate) fn touch(
-    keys: &mut BTreeMap<ViewKey, bool>,
-    key: ViewKey,
-    was_shown: bool,
-) -> Result<(), Memory>
+fn touch(keys: &mut Entries, key: ViewKey, was_shown: bool) -> Result<(), Memory>
     ensures ok { OnOk result (keys.new.entries ≡ with_touched keys.old.entries (key, was_shown)) }
     ensures err { OnErr result (keys.new.entries ≡ keys.old.entries) }
 {
+    // The keys ascend, as `len` says: so one that is there isn't looked for in vain.
     let _ascending = keys.len();
     if !keys.contains_key(&key) {
         drop(keys.insert(key, was_shown)?);
     }
     Ok(())
+}
+
+/// Adds the keys of a further step until memory is wanted, and notes those that weren't there.
+fn add_all<'m>(
+    alloc: Global,
+    keys: &mut Entries,
+    added: &mut Vec<&'m ViewKey>,
+    more: &'m Entries,
+) -> Result<(), Memory>
+    ensures ok { OnOk result (keys.new.entries ≡ joined keys.old.entries more.now.entries) }
+    ensures added { without (map (λ k. k.now) added.new.items) keys.new.entries
+        ≡ without (map (λ k. k.now) added.old.items) keys.old.entries }
+{
+    for (key, was_shown) in more {
+        add_one(alloc, keys, added, key, *was_shown)?;
+    }
+    Ok(())
+}
+
+/// Adds a key, and notes it if it wasn't there.
+fn add_one<'m>(
+    alloc: Global,
+    keys: &mut Entries,
+    added: &mut Vec<&'m ViewKey>,
+    key: &'m ViewKey,
+    was_shown: bool,
+) -> Result<(), Memory>
+    ensures ok { OnOk result (keys.new.entries ≡ with_touched keys.old.entries (key.now, was_shown)) }
+    ensures added { without (map (λ k. k.now) added.new.items) keys.new.entries
+        ≡ without (map (λ k. k.now) added.old.items) keys.old.entries }
+{
+    // The keys ascend, as `len` says: so one that is there isn't looked for in vain.
+    let _ascending = keys.len();
+    if keys.contains_key(key) {
+        return Ok(());
+    }
+    added.push(key)?;
+    drop(keys.insert(key.copy(alloc)?, was_shown)?);
+    Ok(())
+}
+
+/// Takes keys out, the last first.
+fn take_out(keys: &mut Entries, mut added: Vec<&ViewKey>)
+    ensures { keys.new.entries ≡ without (map (λ k. k.now) added.entry.items) keys.old.entries }
+{
+    while let Some(key) = added.pop() {
+        drop(keys.remove(key));
+    }
 }

@@ -21,8 +21,7 @@ use Rattle.delta_core.specs.Deltas.{marked}
 use Rattle.delta_core.specs.DirtySets.{joined, with_touched}
 use Rattle.delta_core.specs.KeySets.{is_among, with_keys}
 use Rattle.delta_core.specs.Rows.{at_key, has_row, row_at}
-use Rattle.view_types.proofs.KeyOrder.{same_key_is_equal}
-use Rattle.delta_core.proofs.KeyLemmas.{same_key-other, same_key-symm}
+use Rattle.view_types.proofs.KeyOrder.{same_key_is_equal, same_key-other, same_key-symm}
 use Rattle.delta_core.proofs.KeySetLemmas.{all_among, beside, beside-with_keys, is_among-with_keys, no_keys_ascend, same_members, unions_ascend}
 use Rattle.plain_view.specs.ByKey.{is_same_as, keys_where, stays_in}
 use Rattle.plain_view.specs.Places.{place_order}

@@ -25,14 +25,13 @@ use Rattle.view_types.specs.declared.key.ViewKey.{ViewKey}
 use Rattle.view_types.specs.declared.key.ViewKey.TheVariants.{Row}
 use Rattle.view_types.specs.declared.shown.Shown.{Shown}
 use Rattle.view_types.specs.declared.shown.ShownRow.{ShownRow}
-use Rattle.view_types.proofs.KeyOrder.{same_key_is_equal}
+use Rattle.view_types.proofs.KeyOrder.{same_key_is_equal, same_key-symm}
 use Rattle.view_types.proofs.SameRows.{same_row_is_equal, same_row_itself, same_header_is_equal, same_header_itself}
 use Rattle.delta_core.specs.Deltas.{marked}
 use Rattle.delta_core.specs.KeySets.{is_among, with_keys}
 use Rattle.delta_core.specs.Laws.{Agree, Ascends, FoldsTo, IsOneWay}
 use Rattle.delta_core.specs.Rows.{at_key, has_row}
 use Rattle.delta_core.specs.declared.delta.Mark.{Mark}
-use Rattle.delta_core.proofs.KeyLemmas.{same_key-symm}
 use Rattle.delta_core.proofs.KeySetLemmas.{is_among-with_keys}
 use Rattle.delta_core.proofs.Rests.{fold_restores}
 use Rattle.plain_view.specs.Flat.{by_place, flat_view, shown_row}

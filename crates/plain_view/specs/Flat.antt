@@ -1,5 +1,5 @@
 -- What a view shows from scratch: a flat view of all rows and all columns.
-use Rattle.std.specs.Prelude.{ℕ, ◌-◌, false, List, [], ◌∷◌, map, take, drop, Option, Some, None}
+use Rattle.std.specs.Prelude.{ℕ, ◌-◌, List, [], ◌∷◌, map, take, drop, Option, Some, None}
 use Rattle.std.specs.declared.cmp.Ordering.{Ordering}
 use Rattle.plain_data.specs.Sorting.{sorted_by}
 use Rattle.value_core.specs.declared.value.Value.{Value}
@@ -10,11 +10,11 @@ use Rattle.cell_core.specs.declared.schema.Column.{Column}
 use Rattle.row_batch.specs.declared.batch.Pair.{Pair}
 use Rattle.view_types.specs.Cells.{put_cell}
 use Rattle.view_types.specs.Types.{shown_type}
-use Rattle.view_types.specs.declared.key.ViewKey.TheVariants.{Row}
 use Rattle.view_types.specs.declared.shown.HeaderColumn.{HeaderColumn}
 use Rattle.view_types.specs.declared.shown.Shown.{Shown}
 use Rattle.view_types.specs.declared.shown.ShownRow.{ShownRow}
 use Rattle.plain_view.specs.Places.{place_order, place_of_row}
+use Rattle.plain_view.specs.Rows.{flat_row}
 
 -- each column's text and type, in the schema's order
 abbrev pub header_column : Column → HeaderColumn
@@ -35,7 +35,7 @@ abbrev pub cells_of : List Column → List Cell → List (List ℕ × Value)
 cells_of columns row = with_cells [] columns row
 
 abbrev pub shown_row : List Column → Pair → ShownRow
-shown_row columns pair = record { key = Row pair.key; mark = false; cells = cells_of columns pair.row }
+shown_row columns pair = flat_row pair.key (cells_of columns pair.row)
 
 abbrev pub by_place : Pair → Pair → Ordering
 by_place a b = place_order (place_of_row a.key) (place_of_row b.key)

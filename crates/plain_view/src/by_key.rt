@@ -86,6 +86,7 @@ impl ShownNow for ShownByKey {
     ghost shown = { λ s. s };
 
     fn position(&self, key: &ViewKey) -> Option<usize> {
+        // No key stands twice among the rows, as `as_slice` says.
         let _distinct = self.shown.rows.as_slice();
         self.positions.get(key).copied()
     }

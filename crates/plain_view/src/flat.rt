@@ -75,6 +75,7 @@ fn put_row<L: Ledger>(
 fn rows_of(alloc: Global, by_key: ByKey) -> Result<ShownRows, Memory>
     ensures { IfOk result (λ rows. rows ≡ map (λ e. flat_row e.0 e.1) by_key.entries) }
 {
+    // The keys ascend, as `len` says: so none stands twice.
     let _ascending = by_key.len();
     let rows = collected(alloc, by_key)?;
     Ok(ShownRows::from_listed(Listed::from_vec(rows)))

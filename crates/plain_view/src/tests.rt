@@ -12,13 +12,8 @@ use std::test::Fail;
 use table_core::Table;
 use view_types::{Shown, ViewKey};
 
-/// A table of columns of whole numbers of these names.
-fn integers(
-    alloc: Global,
-    names: &[&str],
-    index: Option<&str>,
-    limit: Option<i64>,
-) -> Result<Table, Fail> {
+/// A table of columns of whole numbers of these names, of which one is the index.
+fn integers(alloc: Global, names: &[&str], index: &str) -> Result<Table, Fail> {
     let mut columns = Vec::new(alloc);
     for name in names {
         columns.push(ColumnWords {
@@ -26,11 +21,8 @@ fn integers(
             kind: Text::from_str(alloc, "integer")?,
         })?;
     }
-    let index = match index {
-        Some(name) => Some(Text::from_str(alloc, name)?),
-        None => None,
-    };
-    let schema = Schema::make(alloc, Listed::from_vec(columns), index, limit)?;
+    let index = Text::from_str(alloc, index)?;
+    let schema = Schema::make(alloc, Listed::from_vec(columns), Some(index), None)?;
     match Table::make(alloc, schema) {
         Ok(table) => Ok(table),
         Err((refused, _schema)) => Err(refused.into()),
@@ -43,20 +35,6 @@ fn patch(alloc: Global, cells: &[Cell]) -> Result<Patch, Fail> {
         patch.push(PatchCell::Set(cell.copy(alloc)?))?;
     }
     Ok(patch)
-}
-
-/// Puts rows of one whole number each.
-fn put_numbers(
-    rt: &impl Abort,
-    alloc: Global,
-    table: &mut Table,
-    numbers: &[i64],
-) -> Result<(), Fail> {
-    let mut patches = Patches::new(alloc);
-    for number in numbers {
-        patches.push(patch(alloc, &[Cell::Int(*number)])?)?;
-    }
-    put(rt, alloc, table, &Batch::Update(patches))
 }
 
 fn put(rt: &impl Abort, alloc: Global, table: &mut Table, batch: &Batch) -> Result<(), Fail> {
@@ -101,103 +79,30 @@ fn shown_by<L: Ledger>(alloc: Global, table: &Table, blank: Blank) -> Result<Sho
     Ok(show(alloc, table, &mut steps)?)
 }
 
-/// A window of what a view of the table shows, and the number of all its rows.
-fn window(alloc: Global, table: &Table, first: u64, end: u64) -> Result<(Shown, usize), Fail> {
-    let view = ShownByKey::of(alloc, shown(alloc, table)?)?;
-    Ok((view.window(alloc, first, end)?, view.size()))
-}
-
+/// Rows stand by key and nulls are left out; a row is found by its key, and a window has the rows at its positions.
 #[test]
-fn rows_of_an_indexed_table(rt: HostRuntime) -> Result<(), Fail> {
+fn what_a_view_shows(rt: HostRuntime) -> Result<(), Fail> {
     let alloc = rt.alloc();
-    let mut table = integers(alloc, &["k", "v"], Some("k"), None)?;
+    let mut table = integers(alloc, &["k", "v"], "k")?;
     let mut patches = Patches::new(alloc);
     for (key, value) in [(3, Cell::Null), (2, Cell::Int(5)), (1, Cell::Int(7))] {
         patches.push(patch(alloc, &[Cell::Int(key), value])?)?;
     }
     put(&rt, alloc, &mut table, &Batch::Update(patches))?;
-    let text = text_of(alloc, &shown(alloc, &table)?)?;
+    let view = ShownByKey::of(alloc, shown(alloc, &table)?)?;
     assert_eq!(rt;
-        text.as_str(),
+        text_of(alloc, view.shown())?.as_str(),
         "k integer;v integer;\nRow(Int(1)) false k=Whole(1) v=Whole(7)\nRow(Int(2)) false k=Whole(2) v=Whole(5)\nRow(Int(3)) false k=Whole(3)"
     );
-    Ok(())
-}
-
-#[test]
-fn rows_of_a_limited_table(rt: HostRuntime) -> Result<(), Fail> {
-    let alloc = rt.alloc();
-    let mut table = integers(alloc, &["v"], None, Some(3))?;
-    put_numbers(&rt, alloc, &mut table, &[0, 1, 2, 3, 4])?;
-    let text = text_of(alloc, &shown(alloc, &table)?)?;
     assert_eq!(rt;
-        text.as_str(),
-        "v integer;\nRow(Int(0)) false v=Whole(3)\nRow(Int(1)) false v=Whole(4)\nRow(Int(2)) false v=Whole(2)"
+        text_of(alloc, &view.window(alloc, 1, 2)?)?.as_str(),
+        "k integer;v integer;\nRow(Int(2)) false k=Whole(2) v=Whole(5)"
     );
-    Ok(())
-}
-
-#[test]
-fn a_thousand_rows_ascend(rt: HostRuntime) -> Result<(), Fail> {
-    let alloc = rt.alloc();
-    let mut table = integers(alloc, &["v"], Some("v"), None)?;
-    let mut numbers = Vec::new(alloc);
-    for i in 0..1000u32 {
-        numbers.push(i64::from(i * 617 % 1000).wrapping_sub(500))?;
-    }
-    put_numbers(&rt, alloc, &mut table, &numbers)?;
-    let shown = shown(alloc, &table)?;
-    assert_eq!(rt; shown.rows.as_slice().len(), 1000);
-    let mut want = -500i64;
-    for row in shown.rows.as_slice() {
-        assert!(rt; row.key == ViewKey::Row(Cell::Int(want)));
-        want = want.wrapping_add(1);
-    }
-    Ok(())
-}
-
-/// Whether a window has the keys from `key` on, as many as `count`, and tells the number of all rows.
-fn has_keys(window: &(Shown, usize), key: i64, count: usize, size: usize) -> bool {
-    let (shown, all) = window;
-    let mut want = key;
-    for row in shown.rows.as_slice() {
-        if row.key != ViewKey::Row(Cell::Int(want)) {
-            return false;
-        }
-        want = want.wrapping_add(1);
-    }
-    shown.header.len() == 1 && shown.rows.as_slice().len() == count && *all == size
-}
-
-#[test]
-fn windows(rt: HostRuntime) -> Result<(), Fail> {
-    let alloc = rt.alloc();
-    let mut table = integers(alloc, &["v"], Some("v"), None)?;
-    put_numbers(&rt, alloc, &mut table, &[1, -1, 0])?;
-    for (first, end, key, count) in [
-        (0, 3, -1, 3),
-        (0, u64::MAX, -1, 3),
-        (0, 1, -1, 1),
-        (1, 3, 0, 2),
-        (1, 2, 0, 1),
-        (2, 9, 1, 1),
-        (1, 1, 0, 0),
-        (2, 1, 0, 0),
-        (3, 9, 0, 0),
-        (u64::MAX, u64::MAX, 0, 0),
-    ] {
-        let window = window(alloc, &table, first, end)?;
-        assert!(rt; has_keys(&window, key, count, 3), "from {first} to {end}");
-    }
-    Ok(())
-}
-
-#[test]
-fn window_of_no_rows(rt: HostRuntime) -> Result<(), Fail> {
-    let alloc = rt.alloc();
-    let table = integers(alloc, &["v"], None, None)?;
-    let window = window(alloc, &table, 0, 9)?;
-    assert!(rt; has_keys(&window, 0, 0, 0));
+    let key = ViewKey::Row(Cell::Int(3));
+    assert_eq!(rt; view.position(&key), Some(2));
+    let row = view.row(alloc, &key)?.ok_or("no row")?;
+    assert!(rt; row.key == key && row.cells.len() == 1);
+    assert_eq!(rt; view.header(alloc)?.len(), view.size() - 1);
     Ok(())
 }
 
@@ -208,30 +113,13 @@ fn by_key(
     name: &str,
     rows: &[(i64, i64)],
 ) -> Result<ShownByKey, Fail> {
-    let mut table = integers(alloc, &["k", name], Some("k"), None)?;
+    let mut table = integers(alloc, &["k", name], "k")?;
     let mut patches = Patches::new(alloc);
     for (key, value) in rows {
         patches.push(patch(alloc, &[Cell::Int(*key), Cell::Int(*value)])?)?;
     }
     put(rt, alloc, &mut table, &Batch::Update(patches))?;
     Ok(ShownByKey::of(alloc, shown(alloc, &table)?)?)
-}
-
-#[test]
-fn rows_by_key(rt: HostRuntime) -> Result<(), Fail> {
-    let alloc = rt.alloc();
-    let view = by_key(&rt, alloc, "v", &[(3, 30), (1, 10), (2, 20)])?;
-    for (number, position) in [(1, Some(0)), (2, Some(1)), (3, Some(2)), (4, None)] {
-        let key = ViewKey::Row(Cell::Int(number));
-        assert!(rt; view.position(&key) == position);
-        match view.row(alloc, &key)? {
-            Some(row) => assert!(rt; row.key == key && row.cells.len() == 2),
-            None => assert!(rt; position.is_none()),
-        }
-    }
-    assert_eq!(rt; view.header(alloc)?.len(), 2);
-    assert_eq!(rt; view.shown().rows.as_slice().len(), 3);
-    Ok(())
 }
 
 /// Whether just these keys are touched, each with whether it was shown before.

@@ -1,8 +1,9 @@
 -- The order of keys is that of the derived comparison, is total, and tells each two keys apart.
-use Rattle.std.proofs.Common.{◌≡◌, true, List, [], ◌∷◌, Less, Equal, Greater, Ordering, refl, ap}
+use Rattle.std.proofs.Common.{◌≡◌, ◌≢◌, true, false, List, [], ◌∷◌, Less, Equal, Greater, Ordering, refl, ap}
+use Rattle.std.proofs.lemmas.Bool.{false_from_ne_true}
 use Rattle.std.proofs.lemmas.Cmp.{lists_total, tied_itself}
 use Rattle.std.proofs.lemmas.Map.Lookups.{CmpEqualImpliesEq}
-use Rattle.std.specs.Cmp.{IsTotalOrder}
+use Rattle.std.specs.Cmp.{IsTotalOrder, eq_by_cmp_equiv}
 use Rattle.std.specs.Cmp.Lexicographic.{slice_cmp}
 use Rattle.std.specs.Ordering.{is_eq, ordering_reverse, ordering_then}
 use Rattle.cell_core.proofs.CellOrder as cells
@@ -93,3 +94,9 @@ same_key_is_equal a b h = exact a b (equal_from_is_eq (key_order a b) h)
 
 pub same_key_itself : (a : ViewKey) → same_key a a ≡ true
 same_key_itself a = ap is_eq (tied_itself total a)
+
+pub same_key-symm : (a b : ViewKey) → same_key a b ≡ same_key b a
+same_key-symm a b = (eq_by_cmp_equiv total).symm a b
+
+pub same_key-other : (a b : ViewKey) → a ≢ b → same_key a b ≡ false
+same_key-other a b other = false_from_ne_true (same_key a b) (λ h. other (same_key_is_equal a b h))

@@ -196,6 +196,15 @@ impl ShownRows {
         ShownRows { rows }
     }
 
+    /// The rows, with no copy made.
+    pub fn into_listed(self) -> Listed<ShownRow>
+        ensures rows { result ≡ self }
+        ensures shown { AreShownRows self }
+    {
+        let ShownRows { rows } = self;
+        rows
+    }
+
     pub fn as_slice(&self) -> &[ShownRow]
         ensures rows { result.now ≡ self.now }
         ensures shown { AreShownRows self.now }

@@ -5,7 +5,7 @@ use Rattle.std.proofs.lemmas.Iterator.Search.{any_from_yields_List}
 use Rattle.view_types.specs.Keys.{same_key}
 use Rattle.view_types.specs.declared.shown.ShownRow.{ShownRow}
 use Rattle.delta_core.proofs.ShownKeys.{any_has}
-use Rattle.delta_core.proofs.folding.holds.Goals as goal
+use Rattle.delta_core.proofs.tests.holds.Goals as goal
 
 pub returns : goal.returns
 returns c =
