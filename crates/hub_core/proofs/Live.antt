@@ -8,10 +8,9 @@ use Rattle.std.proofs.lemmas.Option.{slice_get-get_or}
 use Rattle.port_queue.specs.Queues.{empty_queue}
 use Rattle.hub_ports.specs.Ports.{PortsData, port_at, port_of, waiting_on}
 use Rattle.hub_ports.specs.declared.ports.Port.{Port}
-use Rattle.hub_spec.specs.Answered.{Answered}
+use Rattle.hub_spec.specs.Past.{PastStep}
 use Rattle.hub_spec.specs.Ports as ports
-use Rattle.hub_core.specs.Holding.{HoldsPorts}
-use Rattle.hub_core.specs.KeptPorts.{kept_port}
+use Rattle.hub_core.specs.Holding.{HoldsPorts, kept_port}
 use Rattle.hub_core.proofs.Numbers.{Lacks, numbers_have, numbers_lack, lacks_at}
 
 -- ---- places
@@ -22,7 +21,7 @@ get_or-map f (z ∷ zs) zero x y lt = refl
 get_or-map f (z ∷ zs) (suc i) x y lt = get_or-map f zs i x y (omega arith)
 
 -- the port at a place is what is kept of a used one
-pub port_is : (past : List Answered) (kept : PortsData) (place : ℕ) → HoldsPorts kept past → place < length kept.live
+pub port_is : (past : List PastStep) (kept : PortsData) (place : ℕ) → HoldsPorts kept past → place < length kept.live
     → (port_at kept.live place ≡ kept_port past (port_at kept.live place).number)
     × (slice_get (ports.used_ports past) place ≡ Some (port_at kept.live place).number)
 port_is past kept place h lt =
@@ -35,7 +34,7 @@ port_is past kept place h lt =
     (at ∙ ap (kept_port past) (sym number), slice_get-get_or used place 0 within ∙ ap (λ k. Some k) (sym number))
 
 -- a port that is kept was made
-pub port_made : (past : List Answered) (kept : PortsData) (place : ℕ) → HoldsPorts kept past → place < length kept.live
+pub port_made : (past : List PastStep) (kept : PortsData) (place : ℕ) → HoldsPorts kept past → place < length kept.live
     → (ports.ports past ≤ (port_at kept.live place).number) → ⊥
 port_made past kept place h lt le =
     let port = (port_at kept.live place).number in
@@ -50,7 +49,7 @@ or_false false b h = (refl, h)
 abbrev Finds : ℕ → Port → Bool
 Finds port p = eqb p.number port
 
-missing_by : (past : List Answered) (port n : ℕ) (ns : List ℕ) (b : Bool) → ports.is_used past n ≡ b
+missing_by : (past : List PastStep) (port n : ℕ) (ns : List ℕ) (b : Bool) → ports.is_used past n ≡ b
     → list_any (Finds port) (map (kept_port past) (if b then n ∷ filter (ports.is_used past) ns else filter (ports.is_used past) ns)) ≡ false
     → (Lacks port (n ∷ ns) → ⊥)
     → (list_any (Finds port) (map (kept_port past) (filter (ports.is_used past) ns)) ≡ false → (Lacks port ns → ⊥) → ports.is_used past port ≡ false)
@@ -65,13 +64,13 @@ missing_by past port n ns false is none has ih =
       | inr other ↦ ih none (λ l. has (other, l))
     ]
 
-missing : (past : List Answered) (port : ℕ) (ns : List ℕ)
+missing : (past : List PastStep) (port : ℕ) (ns : List ℕ)
     → list_any (Finds port) (map (kept_port past) (filter (ports.is_used past) ns)) ≡ false → (Lacks port ns → ⊥) → ports.is_used past port ≡ false
 missing past port [] none has = absurd (has tt)
 missing past port (n ∷ ns) none has =
     missing_by past port n ns (ports.is_used past n) refl none has (missing past port ns)
 
-pub not_kept : (past : List Answered) (kept : PortsData) (port : ℕ) → HoldsPorts kept past → port < kept.made
+pub not_kept : (past : List PastStep) (kept : PortsData) (port : ℕ) → HoldsPorts kept past → port < kept.made
     → list_any (λ p. eqb p.number port) kept.live ≡ false → ports.is_used past port ≡ false
 not_kept past kept port h lt none =
     let made : port < ports.ports past = omega (arith, h.made) in
@@ -85,23 +84,23 @@ not_false : (b : Bool) → not b ≡ false → b ≡ true
 not_false true h = refl
 not_false false h = absurd (cc)
 
-pub unused_is : (past : List Answered) (port : ℕ) → ports.is_used past port ≡ false → (ports.is_closed past port ≡ true) × (ports.waiting past port ≡ [])
+pub unused_is : (past : List PastStep) (port : ℕ) → ports.is_used past port ≡ false → (ports.is_closed past port ≡ true) × (ports.waiting past port ≡ [])
 unused_is past port h =
     let parts = or_false (not (ports.is_closed past port)) (ltb 0 (length (ports.waiting past port))) h in
     (not_false (ports.is_closed past port) parts.0, no_items (ports.waiting past port) parts.1)
 
 -- ---- the batches that wait
 
-waits_by : (past : List Answered) (n : ℕ) (ns : List ℕ) (b : Bool) → ports.is_used past n ≡ b
+waits_by : (past : List PastStep) (n : ℕ) (ns : List ℕ) (b : Bool) → ports.is_used past n ≡ b
     → flat_map (ports.waiting past) ns ≡ waiting_on (map (kept_port past) (filter (ports.is_used past) ns))
     → ports.waiting past n ++ flat_map (ports.waiting past) ns
     ≡ waiting_on (map (kept_port past) (if b then n ∷ filter (ports.is_used past) ns else filter (ports.is_used past) ns))
 waits_by past n ns true is ih = ap (λ bs. ports.waiting past n ++ bs) ih
 waits_by past n ns false is ih = ap (λ bs. bs ++ flat_map (ports.waiting past) ns) (unused_is past n is).1 ∙ ih
 
-waits : (past : List Answered) (ns : List ℕ) → flat_map (ports.waiting past) ns ≡ waiting_on (map (kept_port past) (filter (ports.is_used past) ns))
+waits : (past : List PastStep) (ns : List ℕ) → flat_map (ports.waiting past) ns ≡ waiting_on (map (kept_port past) (filter (ports.is_used past) ns))
 waits past [] = refl
 waits past (n ∷ ns) = waits_by past n ns (ports.is_used past n) refl (waits past ns)
 
-pub all_waiting_is : (past : List Answered) (kept : PortsData) → HoldsPorts kept past → ports.all_waiting past ≡ waiting_on kept.live
+pub all_waiting_is : (past : List PastStep) (kept : PortsData) → HoldsPorts kept past → ports.all_waiting past ≡ waiting_on kept.live
 all_waiting_is past kept h = waits past (ports.numbers_below (ports.ports past)) ∙ ap waiting_on (sym h.live)

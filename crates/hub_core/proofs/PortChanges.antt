@@ -10,11 +10,11 @@ use Rattle.hub_ports.specs.Ports.{PortsData, port_at, port_of, is_live, settled,
 use Rattle.hub_ports.specs.declared.ports.Port.{Port}
 use Rattle.frame_types.specs.Asks.{Ask}
 use Rattle.frame_types.specs.declared.reply.Body.TheVariants as body
-use Rattle.hub_spec.specs.Answered.{Answered}
+use Rattle.hub_spec.specs.Past.{PastStep}
+use Rattle.hub_spec.specs.Giving.{with_step}
 use Rattle.hub_spec.specs.Ports as ports
 use Rattle.hub_spec.specs.Reading.{batch_asked}
-use Rattle.hub_core.specs.Holding.{HoldsPorts, with_step}
-use Rattle.hub_core.specs.KeptPorts.{kept_port}
+use Rattle.hub_core.specs.Holding.{HoldsPorts, kept_port}
 use Rattle.hub_core.proofs.Live.{port_is, port_made}
 use Rattle.hub_core.proofs.Numbers.{with_one, changed, numbers_differ}
 
@@ -41,7 +41,7 @@ settled_is live place p lt =
     ∙ settled_by (is_live p) live place p
 
 -- what is kept after a step that changed one port alone
-live_after : (past now : List Answered) (kept : PortsData) (place : ℕ) (p : Port) → HoldsPorts kept past → place < length kept.live
+live_after : (past now : List PastStep) (kept : PortsData) (place : ℕ) (p : Port) → HoldsPorts kept past → place < length kept.live
     → ports.ports now ≡ ports.ports past
     → ((q : ℕ) → (q ≡ (port_at kept.live place).number → ⊥) → kept_port now q ≡ kept_port past q)
     → kept_port now (port_at kept.live place).number ≡ p
@@ -58,12 +58,12 @@ live_after past now kept place p h lt same others here =
 
 -- ---- a batch is queued
 
-accepted_here : (past : List Answered) (session : ℕ) (request : Ask) (n version port seq : ℕ) (batch : Batch)
+accepted_here : (past : List PastStep) (session : ℕ) (request : Ask) (n version port seq : ℕ) (batch : Batch)
     → batch_asked (ports.schema past) request ≡ Some batch
     → ports.accepted (with_step session request n version (body.Queued port seq) past) port ≡ ports.accepted past port ++ batch ∷ []
 accepted_here past session request n version port seq batch asked = rw (eq-eqb port port refl, asked) refl
 
-accepted_else : (past : List Answered) (session : ℕ) (request : Ask) (n version port seq p : ℕ) → (port ≡ p → ⊥)
+accepted_else : (past : List PastStep) (session : ℕ) (request : Ask) (n version port seq p : ℕ) → (port ≡ p → ⊥)
     → ports.accepted (with_step session request n version (body.Queued port seq) past) p ≡ ports.accepted past p
 accepted_else past session request n version port seq p other = rw (ne_eqb port p other) refl
 
@@ -73,13 +73,13 @@ port_data port waiting accepted shut = port_of port (record { waiting = waiting;
 same_port : (p : ℕ) (a b : List Batch) (n m : ℕ) (c d : Bool) → a ≡ b → n ≡ m → c ≡ d → port_data p a n c ≡ port_data p b m d
 same_port p a b n m c d e f g = cc
 
-pub queued_ports : (kept : PortsData) (past : List Answered) (session : ℕ) (request : Ask) (n version place seq : ℕ) (batch : Batch)
+pub queued_ports : (kept : PortsData) (past : List PastStep) (session : ℕ) (request : Ask) (n version place seq : ℕ) (batch : Batch)
     → HoldsPorts kept past → place < length kept.live → (port_at kept.live place).queue.closed ≡ false
     → batch_asked (ports.schema past) request ≡ Some batch
     → HoldsPorts (record kept { live = put_on kept.live place batch }) (with_step session request n version (body.Queued (port_at kept.live place).number seq) past)
 queued_ports kept past session request n version place seq batch h lt is_open asked =
     let port = (port_at kept.live place).number in
-    let now : List Answered = with_step session request n version (body.Queued port seq) past in
+    let now : List PastStep = with_step session request n version (body.Queued port seq) past in
     let was : port_at kept.live place ≡ kept_port past port = (port_is past kept place h lt).0 in
     let here : ports.accepted now port ≡ ports.accepted past port ++ batch ∷ [] = accepted_here past session request n version port seq batch asked in
     let apart : (q : ℕ) → (q ≡ port → ⊥) → ports.accepted now q ≡ ports.accepted past q =
@@ -112,20 +112,20 @@ queued_ports kept past session request n version place seq batch h lt is_open as
 
 -- ---- a batch is applied
 
-taken_here : (past : List Answered) (session : ℕ) (request : Ask) (n version port seq : ℕ)
+taken_here : (past : List PastStep) (session : ℕ) (request : Ask) (n version port seq : ℕ)
     → ports.taken (with_step session request n version (body.Applied port seq) past) port ≡ ports.taken past port + 1
 taken_here past session request n version port seq = rw (eq-eqb port port refl) refl
 
-taken_else : (past : List Answered) (session : ℕ) (request : Ask) (n version port seq p : ℕ) → (port ≡ p → ⊥)
+taken_else : (past : List PastStep) (session : ℕ) (request : Ask) (n version port seq p : ℕ) → (port ≡ p → ⊥)
     → ports.taken (with_step session request n version (body.Applied port seq) past) p ≡ ports.taken past p
 taken_else past session request n version port seq p other = rw (ne_eqb port p other) refl
 
-pub applied_ports : (kept : PortsData) (past : List Answered) (session : ℕ) (request : Ask) (n version place seq : ℕ)
+pub applied_ports : (kept : PortsData) (past : List PastStep) (session : ℕ) (request : Ask) (n version place seq : ℕ)
     → HoldsPorts kept past → place < length kept.live → 0 < length (port_at kept.live place).queue.waiting
     → HoldsPorts (record kept { live = taken_off kept.live place }) (with_step session request n version (body.Applied (port_at kept.live place).number seq) past)
 applied_ports kept past session request n version place seq h lt some =
     let port = (port_at kept.live place).number in
-    let now : List Answered = with_step session request n version (body.Applied port seq) past in
+    let now : List PastStep = with_step session request n version (body.Applied port seq) past in
     let was : port_at kept.live place ≡ kept_port past port = (port_is past kept place h lt).0 in
     let here : ports.taken now port ≡ ports.taken past port + 1 = taken_here past session request n version port seq in
     let apart : (q : ℕ) → (q ≡ port → ⊥) → ports.taken now q ≡ ports.taken past q =
@@ -153,20 +153,20 @@ applied_ports kept past session request n version place seq h lt some =
 
 -- ---- a port is closed
 
-closed_here : (past : List Answered) (session : ℕ) (request : Ask) (n version port : ℕ)
+closed_here : (past : List PastStep) (session : ℕ) (request : Ask) (n version port : ℕ)
     → ports.is_closed (with_step session request n version (body.PortClosed port) past) port ≡ true
 closed_here past session request n version port = rw (eq-eqb port port refl) refl
 
-closed_else : (past : List Answered) (session : ℕ) (request : Ask) (n version port p : ℕ) → (port ≡ p → ⊥)
+closed_else : (past : List PastStep) (session : ℕ) (request : Ask) (n version port p : ℕ) → (port ≡ p → ⊥)
     → ports.is_closed (with_step session request n version (body.PortClosed port) past) p ≡ ports.is_closed past p
 closed_else past session request n version port p other = rw (ne_eqb port p other) refl
 
-pub closed_ports : (kept : PortsData) (past : List Answered) (session : ℕ) (request : Ask) (n version place : ℕ)
+pub closed_ports : (kept : PortsData) (past : List PastStep) (session : ℕ) (request : Ask) (n version place : ℕ)
     → HoldsPorts kept past → place < length kept.live
     → HoldsPorts (record kept { live = closed_at kept.live place }) (with_step session request n version (body.PortClosed (port_at kept.live place).number) past)
 closed_ports kept past session request n version place h lt =
     let port = (port_at kept.live place).number in
-    let now : List Answered = with_step session request n version (body.PortClosed port) past in
+    let now : List PastStep = with_step session request n version (body.PortClosed port) past in
     let was : port_at kept.live place ≡ kept_port past port = (port_is past kept place h lt).0 in
     let apart : (q : ℕ) → (q ≡ port → ⊥) → ports.is_closed now q ≡ ports.is_closed past q =
     λ q other. closed_else past session request n version port q (λ e. other (sym e)) in
@@ -189,7 +189,7 @@ drop-none : (n : ℕ) → (let none : List Batch = [] in drop n none ≡ none)
 drop-none zero = refl
 drop-none (suc n) = refl
 
-one_more : (past : List Answered) (n : ℕ) → ports.is_used past n ≡ true
+one_more : (past : List PastStep) (n : ℕ) → ports.is_used past n ≡ true
     → map (kept_port past) (filter (ports.is_used past) (ports.numbers_below (n + 1)))
     ≡ map (kept_port past) (filter (ports.is_used past) (ports.numbers_below n)) ++ kept_port past n ∷ []
 one_more past n used =
@@ -198,7 +198,7 @@ one_more past n used =
     ∙ ap (λ b. filter (ports.is_used past) (ports.numbers_below n) ++ (if b then n ∷ [] else [])) used)
     ∙ map-append (kept_port past) (filter (ports.is_used past) (ports.numbers_below n)) (n ∷ [])
 
-pub made_ports : (kept : PortsData) (past : List Answered) (session : ℕ) (request : Ask) (n version port : ℕ)
+pub made_ports : (kept : PortsData) (past : List PastStep) (session : ℕ) (request : Ask) (n version port : ℕ)
     → HoldsPorts kept past → HoldsPorts (with_port kept) (with_step session request n version (body.Port port) past)
 made_ports kept past session request n version port h =
     let next = ports.ports past in

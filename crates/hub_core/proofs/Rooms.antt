@@ -1,5 +1,5 @@
 -- Keys that are counted once.
-use Rattle.std.proofs.Common.{◌≡◌, ◌≢◌, ℕ, suc, zero, ◌+◌, ◌<◌, ◌≤◌, add-one, take, get_or, sum_by, All, Bool, true, false, ◌||◌, ◌&&◌, List, [], ◌∷◌, ◌++◌, length, map, Ordering, Less, Equal, Greater, Option, Some, None, Bor, refl, sym, ap, ◌∙◌, arith, subst, length-append}
+use Rattle.std.proofs.Common.{◌≡◌, ◌≢◌, ℕ, suc, zero, ◌+◌, ◌<◌, ◌≤◌, add-one, take, get_or, sum_by, All, Bool, true, false, ◌||◌, ◌&&◌, List, [], ◌∷◌, ◌++◌, length, map, Ordering, Less, Equal, Greater, Option, Some, None, Bor, refl, sym, ap, ◌∙◌, arith, subst, append_assoc, length-append}
 use Rattle.std.specs.Prelude.{not, is_some, slice_get, if◌then◌else◌}
 use Rattle.std.specs.BTreeMap.{BTreeMap, insert_entry, is_at}
 use Rattle.std.specs.List.{list_any, flat_map}
@@ -7,12 +7,14 @@ use Rattle.std.specs.Map.{lookup}
 use Rattle.std.specs.Option.{option_copied}
 use Rattle.std.proofs.Math.Seq.{take-suc}
 use Rattle.std.proofs.lemmas.Bool.{le-ltb, lt-ltb}
-use Rattle.std.proofs.lemmas.List.{length-map, map-append}
+use Rattle.std.proofs.Math.Bool.{or-false}
+use Rattle.std.proofs.lemmas.List.{append-nil, length-map, map_more, take_all}
 use Rattle.std.proofs.lemmas.List.Concat.{flat_map-append}
 use Rattle.std.proofs.lemmas.List.Elements.{All-head, All-tail}
 use Rattle.std.proofs.lemmas.List.Sums.{sum_by-append}
 use Rattle.std.specs.Ordering.{is_eq, match_ordering, ordering_reverse}
 use Rattle.std.proofs.lemmas.List.Folds.{list_any-append}
+use Rattle.cell_core.specs.Limits.{max_rows}
 use Rattle.cell_core.specs.Cells.{cell_order, same_cell}
 use Rattle.cell_core.specs.contracts.cell.CellOrd.TheImpl.{ghosts}
 use Rattle.cell_core.specs.declared.cell.Cell.{Cell}
@@ -54,12 +56,8 @@ reverse_eq Greater = refl
 same_sym : (a b : Cell) → same_cell a b ≡ same_cell b a
 same_sym a b = ap is_eq (total.antisymm a b) ∙ reverse_eq (cell_order b a)
 
-or_false_right : (b : Bool) → (b || false) ≡ b
-or_false_right true = refl
-or_false_right false = refl
-
 pub any-snoc : (test : Cell → Bool) (ks : List Cell) (k : Cell) → list_any test (ks ++ k ∷ []) ≡ (list_any test ks || test k)
-any-snoc test ks k = list_any-append test ks (k ∷ []) ∙ ap (λ b. list_any test ks || b) (or_false_right (test k))
+any-snoc test ks k = list_any-append test ks (k ∷ []) ∙ ap (λ b. list_any test ks || b) (or-false (test k))
 
 -- ---- how many are different
 
@@ -136,10 +134,6 @@ looked_up k (e ∷ es) =
     ])
 
 -- ---- one key more
-
-pub append_assoc : (xs ys zs : List Cell) → (xs ++ ys) ++ zs ≡ xs ++ (ys ++ zs)
-append_assoc [] ys zs = refl
-append_assoc (x ∷ xs) ys zs = ap (λ t. x ∷ t) (append_assoc xs ys zs)
 
 -- a key that a row has, or that was found before
 pub known_key : (rows keys : List Cell) (found : BTreeMap Cell (Unit {0})) (k : Cell) → (list_any (same_cell k) rows || list_any (Found k) found.entries) ≡ true
@@ -266,20 +260,16 @@ and_none : (b : Bool) → false ≡ (b && false)
 and_none true = refl
 and_none false = refl
 
-pub append_none : {X : Type 0} (xs : List X) → xs ++ [] ≡ xs
-append_none [] = refl
-append_none (x ∷ xs) = ap (λ ys. x ∷ ys) (append_none xs)
-
 pub none_counted : (rows : List Cell) (found : BTreeMap Cell (Unit {0})) → AreDistinct rows → found.entries ≡ [] → IsCounted rows found []
 none_counted rows found distinct none = record {
-  count = omega (arith, ap length none, ap different (append_none rows) ∙ different-distinct rows distinct);
+  count = omega (arith, ap length none, ap different (append-nil rows) ∙ different-distinct rows distinct);
   has = λ k. ap (list_any (Found k)) none ∙ and_none (not (list_any (same_cell k) rows));
 }
 
 -- ---- more keys behind those that were counted
 
 pub counted_none : (rows keys : List Cell) (found : BTreeMap Cell (Unit {0})) → IsCounted rows found keys → IsCounted rows found (keys ++ [])
-counted_none rows keys found c = subst (λ ks. IsCounted rows found ks) (sym (append_none keys)) c
+counted_none rows keys found c = subst (λ ks. IsCounted rows found ks) (sym (append-nil keys)) c
 
 pub counted_more : (rows keys done more all : List Cell) (found : BTreeMap Cell (Unit {0})) → all ≡ done ++ more → IsCounted rows found ((keys ++ done) ++ more) → IsCounted rows found (keys ++ all)
 counted_more rows keys done more all found is c =
@@ -287,14 +277,12 @@ counted_more rows keys done more all found is c =
 
 pub keys-more : (column : ℕ) (patches : List (List PatchCell)) (i : ℕ) → i < length patches
     → map (key_in column) (take (i + 1) patches) ≡ map (key_in column) (take i patches) ++ key_in column (get_or patches i []) ∷ []
-keys-more column patches i lt =
-    let next : i + 1 ≡ suc i = omega arith in
-    ap (λ k. map (key_in column) (take k patches)) next ∙ ap (map (key_in column)) (take-suc patches i [] lt) ∙ map-append (key_in column) (take i patches) (get_or patches i [] ∷ [])
+keys-more column patches i lt = map_more (key_in column) patches i [] lt
 
 pub batches-more : (column : ℕ) (batches : List Batch) (i : ℕ) (b : Batch) → slice_get batches i ≡ Some b
     → flat_map (keys_put column) (take (i + 1) batches) ≡ flat_map (keys_put column) (take i batches) ++ keys_put column b
 batches-more column [] i b at = absurd (cc)
-batches-more column (x ∷ xs) zero b at = let same : x ≡ b = cc in append_none (keys_put column x) ∙ ap (keys_put column) same
+batches-more column (x ∷ xs) zero b at = let same : x ≡ b = cc in append-nil (keys_put column x) ∙ ap (keys_put column) same
 batches-more column (x ∷ xs) (suc i) b at =
     rw add-one (ap (λ ks. keys_put column x ++ ks) (let step = batches-more column xs i b at in rw add-one at step)
     ∙ sym (append_assoc (keys_put column x) (flat_map (keys_put column) (take i xs)) (keys_put column b)))
@@ -336,24 +324,24 @@ taken_le (Indexed column) pairs bs =
 taken_le (Limited slots) pairs bs = omega arith
 taken_le Free pairs bs = omega arith
 
-not_over : (n : ℕ) → n ≤ 65536 → over n ≡ None
-not_over n le = rw (le-ltb 65536 n le) refl
+not_over : (n : ℕ) → n ≤ max_rows → over n ≡ None
+not_over n le = rw (le-ltb max_rows n le) refl
 
 -- where all rows in sum fit, so do the rows of all
-pub room_for_all : (t : TableData) (kept : PortsData) (b : Batch) → length t.store.pairs + sum_by rows_in (waiting_on kept.live) + rows_in b ≤ 65536
-    → None ≡ over (room_taken (Some t) kept b)
+pub room_for_all : (t : TableData) (kept : PortsData) (b : Batch) → length t.store.pairs + sum_by rows_in (waiting_on kept.live) + rows_in b ≤ max_rows
+    → None ≡ over (room_taken t kept b)
 room_for_all t kept b le =
     let sums : sum_by rows_in (waiting_on kept.live ++ b ∷ []) ≡ sum_by rows_in (waiting_on kept.live) + rows_in b =
     sum_by-append rows_in (waiting_on kept.live) (b ∷ []) ∙ ap (λ n. sum_by rows_in (waiting_on kept.live) + n) (rows_one b) in
-    sym (not_over (room_taken (Some t) kept b) (omega (arith, taken_le t.schema.keeping t.store.pairs (waiting_on kept.live ++ b ∷ []), sums, le)))
+    sym (not_over (room_taken t kept b) (omega (arith, taken_le t.schema.keeping t.store.pairs (waiting_on kept.live ++ b ∷ []), sums, le)))
 
-over_by : (n : ℕ) → 65536 < n → over n ≡ Some n
-over_by n lt = rw (lt-ltb 65536 n lt) refl
+over_by : (n : ℕ) → max_rows < n → over n ≡ Some n
+over_by n lt = rw (lt-ltb max_rows n lt) refl
 
 -- rows of a table without index or limit, where they are too many in sum
 pub free_over : (t : TableData) (kept : PortsData) (b : Batch) (all : ℕ) → t.schema.keeping ≡ Free
-    → all ≡ length t.store.pairs + sum_by rows_in (waiting_on kept.live) + rows_in b → 65536 < all
-    → Some all ≡ over (room_taken (Some t) kept b)
+    → all ≡ length t.store.pairs + sum_by rows_in (waiting_on kept.live) + rows_in b → max_rows < all
+    → Some all ≡ over (room_taken t kept b)
 free_over t kept b all free is lt =
     let sums : sum_by rows_in (waiting_on kept.live ++ b ∷ []) ≡ sum_by rows_in (waiting_on kept.live) + rows_in b =
     sum_by-append rows_in (waiting_on kept.live) (b ∷ []) ∙ ap (λ n. sum_by rows_in (waiting_on kept.live) + n) (rows_one b) in
@@ -361,7 +349,7 @@ free_over t kept b all free is lt =
     sym (ap (λ k. over (rows_of_all k t.store.pairs (waiting_on kept.live ++ b ∷ []))) free ∙ ap over count ∙ over_by all lt)
 
 -- a table with a limit always has room
-pub limited_fits : (t : TableData) (kept : PortsData) (b : Batch) (slots : ℕ) → t.schema.keeping ≡ Limited slots → None ≡ over (room_taken (Some t) kept b)
+pub limited_fits : (t : TableData) (kept : PortsData) (b : Batch) (slots : ℕ) → t.schema.keeping ≡ Limited slots → None ≡ over (room_taken t kept b)
 limited_fits t kept b slots is = sym (ap (λ k. over (rows_of_all k t.store.pairs (waiting_on kept.live ++ b ∷ []))) is)
 
 -- what was counted is how many different keys there are
@@ -373,14 +361,8 @@ counted_over rows found keys would c is = ap over (is ∙ c.count)
 pub all_keys : (column : ℕ) (live : List Port) (i : ℕ) (b : Batch) → length live ≤ i
     → flat_map (keys_put column) (waiting_on (take i live)) ++ keys_put column b ≡ flat_map (keys_put column) (waiting_on live ++ b ∷ [])
 all_keys column live i b le =
-    ap (λ ps. flat_map (keys_put column) (waiting_on ps) ++ keys_put column b) (take-all i live le)
-    ∙ sym (flat_map-append (keys_put column) (waiting_on live) (b ∷ []) ∙ ap (λ ks. flat_map (keys_put column) (waiting_on live) ++ ks) (append_none (keys_put column b)))
-  where
-    take-all : (n : ℕ) (xs : List Port) → length xs ≤ n → take n xs ≡ xs
-    take-all zero [] h = refl
-    take-all (suc n) [] h = refl
-    take-all zero (x ∷ xs) h = absurd (omega arith)
-    take-all (suc n) (x ∷ xs) h = ap (λ ys. x ∷ ys) (take-all n xs (omega arith))
+    ap (λ ps. flat_map (keys_put column) (waiting_on ps) ++ keys_put column b) (take_all i live le)
+    ∙ sym (flat_map-append (keys_put column) (waiting_on live) (b ∷ []) ∙ ap (λ ks. flat_map (keys_put column) (waiting_on live) ++ ks) (append-nil (keys_put column b)))
 
 -- the keys of one port more
 pub port-keys-more : (column : ℕ) (live : List Port) (i : ℕ) (p : Port) → i < length live → p ≡ get_or live i p
@@ -389,5 +371,5 @@ port-keys-more column live i p lt is =
     let next : i + 1 ≡ suc i = omega arith in
     ap (λ k. flat_map (keys_put column) (waiting_on (take k live))) next
     ∙ ap (λ ps. flat_map (keys_put column) (waiting_on ps)) (take-suc live i p lt ∙ ap (λ q. take i live ++ q ∷ []) (sym is))
-    ∙ ap (flat_map (keys_put column)) (flat_map-append (λ q. q.queue.waiting) (take i live) (p ∷ []) ∙ ap (λ bs. waiting_on (take i live) ++ bs) (append_none p.queue.waiting))
+    ∙ ap (flat_map (keys_put column)) (flat_map-append (λ q. q.queue.waiting) (take i live) (p ∷ []) ∙ ap (λ bs. waiting_on (take i live) ++ bs) (append-nil p.queue.waiting))
     ∙ flat_map-append (keys_put column) (waiting_on (take i live)) p.queue.waiting

@@ -1,8 +1,9 @@
 -- What does not depend on the order of a table's rows.
-use Rattle.std.proofs.Common.{◌≡◌, ◌+◌, ◌||◌, List, [], ◌∷◌, ◌++◌, fold, refl, sym, ap, ◌∙◌, subst, arith}
+use Rattle.std.proofs.Common.{◌≡◌, ◌+◌, ◌||◌, List, [], ◌∷◌, ◌++◌, fold, refl, sym, ap, ◌∙◌, subst, append_assoc, arith}
 use Rattle.std.specs.Prelude.{if◌then◌else◌}
 use Rattle.std.specs.List.{list_any}
 use Rattle.std.specs.List.Sorted.{IsPermutation}
+use Rattle.std.proofs.lemmas.List.{append-nil}
 use Rattle.std.proofs.lemmas.List.Elements.{All-nil}
 use Rattle.std.proofs.lemmas.List.Sorted.{IsPermutation-refl, IsPermutation-trans, IsPermutation-map, length_permutation, list_any-IsPermutation}
 use Rattle.cell_core.specs.Cells.{same_cell}
@@ -17,12 +18,12 @@ use Rattle.row_batch.specs.declared.batch.Batch.{Batch}
 use Rattle.row_batch.specs.declared.batch.Pair.{Pair}
 use Rattle.row_batch.proofs.Keys.{KeepsKeys, batch_keeps}
 use Rattle.row_batch.proofs.Steps.{distinct_reordered, order_does_not_matter}
-use Rattle.hub_spec.specs.Answered.{Answered}
+use Rattle.hub_spec.specs.Past.{PastStep}
 use Rattle.hub_spec.specs.Ports.{Applied, applied}
 use Rattle.hub_spec.specs.Room.{different, rows_of_all}
 use Rattle.hub_spec.specs.Rows.{schema_or_none, put_applied, store}
 use Rattle.table_core.specs.Tables.{TableData, IsStill}
-use Rattle.hub_core.proofs.Rooms.{any-snoc, append_assoc, append_none, different-snoc, different-distinct}
+use Rattle.hub_core.proofs.Rooms.{any-snoc, different-snoc, different-distinct}
 
 -- ---- how many different keys there are
 
@@ -41,7 +42,7 @@ alike_more xs ys k alike = record {
 }
 
 alike_count : (xs ys ks : List Cell) → AreAlike xs ys → different (xs ++ ks) ≡ different (ys ++ ks)
-alike_count xs ys [] alike = ap different (append_none xs) ∙ alike.count ∙ sym (ap different (append_none ys))
+alike_count xs ys [] alike = ap different (append-nil xs) ∙ alike.count ∙ sym (ap different (append-nil ys))
 alike_count xs ys (k ∷ ks) alike =
     sym (ap different (append_assoc xs (k ∷ []) ks)) ∙ alike_count (xs ++ k ∷ []) (ys ++ k ∷ []) ks (alike_more xs ys k alike)
     ∙ ap different (append_assoc ys (k ∷ []) ks)
@@ -75,7 +76,7 @@ keyed schema s [] h = h
 keyed schema s (a ∷ done) h = keyed schema (put_batch schema s a.batch) done (batch_keeps schema s a.batch h.0 h.1)
 
 -- no key stands twice, and running numbers were given before
-pub store_keyed : (past : List Answered) → KeepsKeys (schema_or_none past).keeping (store past)
+pub store_keyed : (past : List PastStep) → KeepsKeys (schema_or_none past).keeping (store past)
 store_keyed past = keyed (schema_or_none past) empty_store (applied past) (none_keyed (schema_or_none past).keeping)
 
 -- ---- the same rows in another order

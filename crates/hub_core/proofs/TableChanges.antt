@@ -1,5 +1,5 @@
 -- What a step makes of the table's schema, rows and version.
-use Rattle.std.proofs.Common.{◌≡◌, ℕ, ◌+◌, List, [], ◌∷◌, ◌++◌, fold, Option, Some, None, unwrap_or, refl, sym, ap, ◌∙◌, subst, length-append}
+use Rattle.std.proofs.Common.{◌≡◌, ℕ, ◌+◌, List, [], ◌∷◌, ◌++◌, fold, Some, unwrap_or, refl, sym, ap, ◌∙◌, subst, length-append}
 use Rattle.std.proofs.lemmas.List.Sums.{fold-append}
 use Rattle.cell_core.specs.Schemas.{SchemaData}
 use Rattle.row_batch.specs.Batches.{empty_store, put_batch}
@@ -8,13 +8,12 @@ use Rattle.row_batch.specs.declared.batch.Batch.{Batch}
 use Rattle.row_batch.proofs.Keys.{KeepsKeys}
 use Rattle.frame_types.specs.Asks.{Ask}
 use Rattle.frame_types.specs.declared.reply.Body.TheVariants as body
-use Rattle.hub_spec.specs.Answered.{Answered}
+use Rattle.hub_spec.specs.Past.{PastStep}
+use Rattle.hub_spec.specs.Giving.{with_step}
 use Rattle.hub_spec.specs.Ports.{Applied, waiting, taken, applied, with_first}
-use Rattle.hub_spec.specs.Ports as ports
 use Rattle.hub_spec.specs.Rows.{no_schema, schema_or_none, put_applied, store}
-use Rattle.table_core.specs.Tables.{TableData}
-use Rattle.hub_core.specs.Holding.{HoldsTable, with_step}
-use Rattle.hub_core.specs.Tables.{schema_in, store_in}
+use Rattle.table_core.specs.Tables.{IsStill, TableData}
+use Rattle.hub_views.specs.Tables.{HoldsTable}
 use Rattle.hub_core.proofs.RowOrders.{reordered_more, store_keyed}
 
 -- where a batch waits, the oldest one is the one that is applied
@@ -26,24 +25,28 @@ put_first : (schema : SchemaData) (done : List Applied) (a : Applied)
     → fold (put_applied schema) empty_store (done ++ a ∷ []) ≡ put_batch schema (fold (put_applied schema) empty_store done) a.batch
 put_first schema done a = fold-append (put_applied schema) empty_store done (a ∷ [])
 
-pub applied_table : (table : Option TableData) (before after : TableData) (number : ℕ) (past : List Answered) (session : ℕ) (request : Ask)
-    (n version port seq : ℕ) (batch : Batch) (rest : List Batch)
-    → HoldsTable table number past → table ≡ Some before → waiting past port ≡ batch ∷ rest
+pub applied_table : (before after : TableData) (number : ℕ) (past : List PastStep) (session : ℕ) (request : Ask) (n version port seq : ℕ) (batch : Batch) (rest : List Batch)
+    → HoldsTable before number past → waiting past port ≡ batch ∷ rest
     → after.schema ≡ before.schema → IsReordered (put_batch before.schema before.store batch) after.store
-    → HoldsTable (Some after) (number + 1) (with_step session request n version (body.Applied port seq) past)
-applied_table table before after number past session request n version port seq batch rest h is first same put =
+    → HoldsTable after (number + 1) (with_step session request n version (body.Applied port seq) past)
+applied_table before after number past session request n version port seq batch rest h first same put =
     let this : Applied = record { port = port; seq = taken past port + 1; batch = batch } in
-    let now : List Answered = with_step session request n version (body.Applied port seq) past in
+    let now : List PastStep = with_step session request n version (body.Applied port seq) past in
     let done : with_first (waiting past port) port (taken past port + 1) (applied past) ≡ applied past ++ this ∷ [] =
     first_of_waiting (waiting past port) batch rest port (taken past port + 1) (applied past) first in
-    let some : ports.schema past ≡ Some before.schema = sym h.schema ∙ ap schema_in is in
-    let made : schema_or_none past ≡ before.schema = ap (λ o. unwrap_or o no_schema) some in
-    let led : store now ≡ put_batch before.schema (store past) batch = rw (done, some) (put_first before.schema (applied past) this) in
-    let kept : IsReordered (store past) before.store = subst (λ o. IsReordered (store past) (store_in o)) is h.kept in
+    let made : schema_or_none past ≡ before.schema = ap (λ o. unwrap_or o no_schema) h.schema in
+    let led : store now ≡ put_batch before.schema (store past) batch = rw (done, h.schema) (put_first before.schema (applied past) this) in
     let keyed : KeepsKeys before.schema.keeping (store past) = subst (λ s. KeepsKeys s.keeping (store past)) made (store_keyed past) in
     record {
-      schema = ap Some same ∙ sym some;
-      kept = subst (λ s. IsReordered s after.store) (sym led) (reordered_more before.schema batch (store past) before.store after.store keyed kept put);
-      version = rw done (ap (λ v. v + 1) h.version ∙ sym (length-append (applied past) (this ∷ [])));
-      bare = λ none. absurd (let e : Some before.schema ≡ None = sym some ∙ none in cc);
+      schema = h.schema ∙ ap Some (sym same);
+      rows = subst (λ s. IsReordered s after.store) (sym led) (reordered_more before.schema batch (store past) before.store after.store keyed h.rows put);
+      number = rw done (ap (λ v. v + 1) h.number ∙ sym (length-append (applied past) (this ∷ [])));
     }
+
+-- the table stays that of the history where more room was made for its rows
+pub still_table : (before now : TableData) (number : ℕ) (past : List PastStep) → IsStill before now → HoldsTable before number past → HoldsTable now number past
+still_table before now number past still h = record {
+  schema = h.schema ∙ ap Some (sym still.schema);
+  rows = subst (IsReordered (store past)) (sym still.store) h.rows;
+  number = h.number;
+}

@@ -1,77 +1,86 @@
--- What a machine holds after a history.
-use Rattle.std.specs.Prelude.{◌≡◌, ℕ, ◌<◌, ◌≤◌, true, false, List, [], ◌∷◌, length, filter, map, Option, Some, None, slice_index}
-use Rattle.hub_ports.specs.Ports.{PortsData}
-use Rattle.row_batch.specs.Tables.{IsReordered}
+-- What a machine holds after a history. Records over what a history has, rather than over the history, stay as they
+-- are where a step changes none of it.
+use Rattle.std.specs.Prelude.{◌≡◌, ℕ, ◌≤◌, nat_lt, Bool, false, not, ◌||◌, List, [], ◌∷◌, length, drop, filter, map, Option, Some, None}
+use Rattle.cell_core.specs.Schemas.{SchemaData}
 use Rattle.row_batch.specs.declared.batch.Batch.{Batch}
+use Rattle.hub_ports.specs.Ports.{PortsData, port_of}
+use Rattle.hub_ports.specs.declared.ports.Port.{Port}
 use Rattle.table_core.specs.Tables.{TableData}
-use Rattle.frame_types.specs.Asks.{Ask}
-use Rattle.frame_types.specs.declared.reply.Body.{Body}
-use Rattle.hub_spec.specs.Answered.{Answered}
-use Rattle.hub_spec.specs.Answers.{first_of, refusals, granted, queued, full_port, full_table_for}
+use Rattle.hub_spec.specs.Past.{PastStep}
+use Rattle.hub_spec.specs.HeldViews.{HeldView}
 use Rattle.hub_spec.specs.HeldViews as held
-use Rattle.hub_spec.specs.Histories.{choice_of, chosen, may_choose}
+use Rattle.hub_spec.specs.Ports.{Applied, numbers_below}
 use Rattle.hub_spec.specs.Ports as ports
-use Rattle.hub_spec.specs.Rows as rows
-use Rattle.hub_core.specs.KeptPorts.{kept_port}
-use Rattle.hub_core.specs.KeptViews.{AreNumbered, kept_view}
-use Rattle.hub_core.specs.Tables.{schema_in, store_in}
+use Rattle.hub_views.specs.Keeping.{HoldsViews}
+use Rattle.hub_views.specs.Tables.{HoldsTable}
+use Rattle.hub_views.specs.declared.views.Views.{Views}
+use Rattle.hub_core.specs.declared.engine.Engine.{Engine}
 use Rattle.hub_core.specs.declared.machine.Machine.{Machine}
-use Rattle.hub_core.specs.declared.views.View.{View}
 
--- the table's schema and version, and its rows in any order
-pub record HoldsTable (table : Option TableData) (number : ℕ) (past : List Answered) : Type 0 where
-  pub schema : schema_in table ≡ ports.schema past
-  pub kept : IsReordered (rows.store past) (store_in table)
-  pub version : number ≡ ports.version past
-  pub bare : ports.schema past ≡ None → ports.applied past ≡ []
+-- ---- ports
 
--- nothing was done with a port of that number
-abbrev pub IsUnmade : List Answered → ℕ → Type 0
-IsUnmade past port = (ports.accepted past port ≡ []) × (ports.is_closed past port ≡ false)
+-- what is kept of a port, by the batches that it accepted, how many were applied, and whether it is closed
+abbrev pub port_by : (ℕ → List Batch) → (ℕ → ℕ) → (ℕ → Bool) → ℕ → Port
+port_by accepts takes closes port =
+    port_of port (record { waiting = drop (takes port) (accepts port); accepted = length (accepts port); closed = closes port })
 
-pub record HoldsPorts (kept : PortsData) (past : List Answered) : Type 0 where
-  pub made : kept.made ≡ ports.ports past
-  pub live : kept.live ≡ map (kept_port past) (filter (ports.is_used past) (ports.numbers_below (ports.ports past)))
-  pub within : (port : ℕ) → ports.taken past port ≤ length (ports.accepted past port)
-  pub unmade : (port : ℕ) → ports.ports past ≤ port → IsUnmade past port
+abbrev pub kept_port : List PastStep → ℕ → Port
+kept_port past = port_by (ports.accepted past) (ports.taken past) (ports.is_closed past)
 
-pub record HoldsViews (kept : List View) (counts : List ℕ) (past : List Answered) : Type 0 where
-  pub views : kept ≡ map (kept_view past) (held.views past)
-  pub sessions : length counts ≡ 66
-  pub opened : (session : ℕ) → session < 66 → slice_index counts session ≡ held.opened past session
-  pub numbered : AreNumbered (held.opened past) (held.views past)
-  pub bare : ports.schema past ≡ None → held.views past ≡ []
+abbrev pub is_used_by : (ℕ → List Batch) → (ℕ → ℕ) → (ℕ → Bool) → ℕ → Bool
+is_used_by accepts takes closes port = not (closes port) || nat_lt 0 (length (drop (takes port) (accepts port)))
 
-pub record Holds (m : Machine) (past : List Answered) : Type 0 where
-  pub table : HoldsTable m.table m.version past
-  pub ports : HoldsPorts m.ports past
-  pub views : HoldsViews m.views.items m.opened past
+-- the ports that are used are kept, ascending by number, and nothing was done with one that was not made
+pub record KeepsPorts (kept : PortsData) (count : ℕ) (accepts : ℕ → List Batch) (takes : ℕ → ℕ) (closes : ℕ → Bool) : Type 0 where
+  pub made : kept.made ≡ count
+  pub live : kept.live ≡ map (port_by accepts takes closes) (filter (is_used_by accepts takes closes) (numbers_below count))
+  pub within : (port : ℕ) → takes port ≤ length (accepts port)
+  pub unmade : (port : ℕ) → count ≤ port → (accepts port ≡ []) × (closes port ≡ false)
 
--- the answer where the history isn't full and memory is plenty
-abbrev pub plain_in : List Answered → ℕ → Ask → Body
-plain_in past session request = first_of (refusals past session request) (granted past session request)
+abbrev pub HoldsPorts : PortsData → List PastStep → Type 0
+HoldsPorts kept past = KeepsPorts kept (ports.ports past) (ports.accepted past) (ports.taken past) (ports.is_closed past)
 
--- the rest of the answer where a batch is to be queued on an open port
-abbrev pub put_answer : List Answered → ℕ → Body
-put_answer past port = first_of (full_port past port ∷ []) (queued past port)
+-- ---- a table with its ports and views
 
--- the same where the batch puts rows
-abbrev pub rows_answer : List Answered → ℕ → Batch → Body
-rows_answer past port batch = first_of (full_port past port ∷ full_table_for past (Some batch) ∷ []) (queued past port)
+pub record HoldsParts (t : TableData) (version : ℕ) (kept : PortsData) (v : Views) (past : List PastStep) : Type 0 where
+  pub table : HoldsTable t version past
+  pub ports : HoldsPorts kept past
+  pub views : HoldsViews v past
 
--- the answer is the plain one under a choice that it names and that is allowed
-pub record IsGiven (past : List Answered) (request : Ask) (plain answer : Body) : Type 0 where
-  pub right : answer ≡ chosen (choice_of answer) plain
-  pub allowed : may_choose past request (choice_of answer) plain ≡ true
+abbrev pub HoldsAll : Engine → List PastStep → Type 0
+HoldsAll e past = HoldsParts e.table e.version e.ports e.views past
 
-abbrev pub with_step : ℕ → Ask → ℕ → ℕ → Body → List Answered → List Answered
-with_step session request n version answer past =
-    record { session = session; request = request; reply = record { n = n; version = version; body = answer } } ∷ past
+-- ---- before there is a table
 
--- after this history the answer is right, and the machine has what follows
-pub record DoesBy (plain : Body) (past : List Answered) (session : ℕ) (request : Ask) (answer : Body) (after : Machine) : Type 0 where
-  pub given : IsGiven past request plain answer
-  pub holds : (n version : ℕ) → Holds after (with_step session request n version answer past)
+-- no batch was applied, no port made and no view opened
+pub record IsEmpty (done : List Applied) (count : ℕ) (accepts : ℕ → List Batch) (takes : ℕ → ℕ) (closes : ℕ → Bool) (vs : List HeldView) (opens : ℕ → ℕ) : Type 0 where
+  pub applied : done ≡ []
+  pub made : count ≡ 0
+  pub accepted : (port : ℕ) → accepts port ≡ []
+  pub taken : (port : ℕ) → takes port ≡ 0
+  pub closed : (port : ℕ) → closes port ≡ false
+  pub views : vs ≡ []
+  pub opened : (session : ℕ) → opens session ≡ 0
 
-abbrev pub Does : List Answered → ℕ → Ask → Body → Machine → Type 0
-Does past session request answer after = DoesBy (plain_in past session request) past session request answer after
+-- nothing but the table's schema is known
+abbrev pub HoldsSchema : Option SchemaData → List PastStep → Type 0
+HoldsSchema made past =
+    (ports.schema past ≡ made)
+    × IsEmpty (ports.applied past) (ports.ports past) (ports.accepted past) (ports.taken past) (ports.is_closed past) (held.views past) (held.opened past)
+
+-- ---- a machine
+
+abbrev pub holds_in : Option Engine → List PastStep → Type 0
+holds_in None past = HoldsSchema None past
+holds_in (Some e) past = HoldsAll e past
+
+abbrev pub Holds : Machine → List PastStep → Type 0
+Holds m past = holds_in m.engine past
+
+-- how many batches were applied
+abbrev pub version_in : Option Engine → ℕ
+version_in None = 0
+version_in (Some e) = e.version
+
+abbrev pub version_of : Machine → ℕ
+version_of m = version_in m.engine

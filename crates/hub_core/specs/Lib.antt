@@ -1,10 +1,7 @@
 pub mod Callers
 pub mod Holding
-pub mod KeptPorts
-pub mod KeptViews
-pub mod Refreshing
+pub mod Queueing
 pub mod Refusing
 pub mod Rooms
 pub mod Standing
-pub mod Tables
 pub mod Taken

@@ -1,5 +1,5 @@
 -- The batches that a table takes.
-use Rattle.std.specs.Prelude.{List, All, Option, Some, None}
+use Rattle.std.specs.Prelude.{List, All}
 use Rattle.std.proofs.Props.{props}
 use Rattle.cell_core.specs.Schemas.{SchemaData}
 use Rattle.cell_core.specs.declared.schema.Keeping.{Keeping}
@@ -9,14 +9,9 @@ use Rattle.row_batch.specs.declared.batch.Batch.{Batch}
 use Rattle.row_batch.specs.declared.batch.Batch.TheVariants as batch
 use Rattle.hub_ports.specs.declared.ports.Port.{Port}
 
--- nothing is to be said against the batch on a table of that schema; without a table none is taken
-abbrev pub IsTaken : Option SchemaData → Batch → Type 0
-IsTaken None b = ⊥
-IsTaken (Some schema) b = IsChecked schema b
-
--- each batch that waits on a port
-abbrev pub AreTaken : Option SchemaData → List Port → Type 0
-AreTaken schema live = All (λ p. All (IsTaken schema) p.queue.waiting) live
+-- the table takes each batch that waits on a port: nothing is to be said against it
+abbrev pub AreTaken : SchemaData → List Port → Type 0
+AreTaken schema live = All (λ p. All (IsChecked schema) p.queue.waiting) live
 
 -- ---- there is one proof of it at most
 
@@ -34,9 +29,5 @@ IsShaped-prop schema (batch.Replace patches) = hlevel props
 IsChecked-prop : (schema : SchemaData) (b : Batch) → IsProp (IsChecked schema b)
 IsChecked-prop schema b = hlevel (props, IsShaped-prop)
 
-IsTaken-prop : (schema : Option SchemaData) (b : Batch) → IsProp (IsTaken schema b)
-IsTaken-prop None b = hlevel props
-IsTaken-prop (Some schema) b = IsChecked-prop schema b
-
-pub AreTaken-prop : (schema : Option SchemaData) (live : List Port) → IsProp (AreTaken schema live)
-AreTaken-prop schema live = hlevel (props, IsTaken-prop)
+pub AreTaken-prop : (schema : SchemaData) (live : List Port) → IsProp (AreTaken schema live)
+AreTaken-prop schema live = hlevel (props, IsChecked-prop)

@@ -1,13 +1,14 @@
-ghost use Rattle.std.specs.Prelude.{◌≡◌, List, [], length, ◌<◌, ◌≤◌, ◌^◌, IfOk};
+ghost use Rattle.std.specs.Prelude.{◌≡◌, List, [], length, ◌<◌, ◌^◌, IfOk};
 ghost use Rattle.frame_types.specs.Asks.{request_view};
+ghost use Rattle.frame_types.specs.Limits.{sessions};
 ghost use Rattle.hub_spec.specs.Histories.{Entry};
-ghost use Rattle.hub_spec.specs.Runs as runs;
+ghost use Rattle.hub_spec.specs.Runs.{AnswersOneStep};
 ghost use Rattle.hub_core.specs.Standing.{StandsFor, limit_of};
 
-use crate::machine::{Machine, SESSIONS};
+use crate::machine::Machine;
 use crate::refused;
 use cell_core::{Memory, Steps};
-use frame_types::{Body, Reply, Request};
+use frame_types::{Body, Reply, Request, SESSIONS};
 use std::alloc::Global;
 use std::sync::ledger::Ledger;
 
@@ -46,21 +47,21 @@ impl Hub {
         self.entries
     }
 
-    /// Answers one request of a session, from 0 to 65, whole. `steps` counts the visits of the table's rows.
+    /// Answers one request of a session whole. `steps` counts the visits of the table's rows.
     ///
     /// The refusal for a full history changes nothing. Every other refusal changes the session's
     /// count of requests alone.
     pub fn step<L: Ledger>(&mut self, session: u32, request: Request, steps: &mut Steps<L>) -> Reply
-        requires { session ≤ 65 }
+        requires { session < sessions }
         ensures steps { (h : List Entry) → StandsFor self.old h
-            → runs.Steps (limit_of self.old) h session (request_view request) result (StandsFor self.new) }
+            → AnswersOneStep (limit_of self.old) h session (request_view request) result (StandsFor self.new) }
         ensures limit { limit_of self.new ≡ limit_of self.old }
     {
         let n = self.counts[session as usize].saturating_add(1);
         if self.entries >= self.limit {
             return Reply {
                 n,
-                version: self.machine.version,
+                version: self.machine.version(),
                 body: Body::Refused(refused::history_full(self.limit)),
             };
         }
@@ -69,7 +70,7 @@ impl Hub {
         let body = self.machine.act(session, request, steps);
         Reply {
             n,
-            version: self.machine.version,
+            version: self.machine.version(),
             body,
         }
     }

@@ -1,7 +1,8 @@
-ghost use Rattle.std.specs.Prelude.{◌≡◌, ◌≤◌, ◌<◌, List};
+ghost use Rattle.std.specs.Prelude.{◌≡◌, ◌<◌, List};
 ghost use Rattle.frame_types.specs.Asks.{request_view};
+ghost use Rattle.frame_types.specs.Limits.{sessions};
 ghost use Rattle.hub_spec.specs.Histories.{Entry};
-ghost use Rattle.hub_spec.specs.Runs as runs;
+ghost use Rattle.hub_spec.specs.Runs.{AnswersOneStep};
 ghost use Rattle.hub_core.specs.Standing.{StandsFor, limit_of};
 
 use crate::hub::Hub;
@@ -57,12 +58,12 @@ impl Caller for LocalCaller {
 
 /// Answers one request, with a counter of visits for this step alone.
 fn counted_step<L: Ledger>(hub: &mut Hub, session: u32, request: Request, blank: Blank) -> Reply
-    requires session { session ≤ 65 }
+    requires session { session < sessions }
     requires name { blank.name ≡ L.name }
     requires parts { blank.parts ≡ L.parts }
     requires some { 0 < L.parts }
     ensures steps { (h : List Entry) → StandsFor hub.old h
-        → runs.Steps (limit_of hub.old) h session (request_view request) result (StandsFor hub.new) }
+        → AnswersOneStep (limit_of hub.old) h session (request_view request) result (StandsFor hub.new) }
     ensures limit { limit_of hub.new ≡ limit_of hub.old }
 {
     let mut steps = Steps::<L>::new(blank);

@@ -1,65 +1,53 @@
-ghost use Rattle.hub_core.specs.Taken.{AreTaken, AreTaken-prop};
-ghost use Rattle.hub_core.specs.Tables.{schema_in};
+ghost use Rattle.std.specs.Prelude.{◌≡◌, ◌<◌, ℕ, [], None};
+ghost use Rattle.frame_types.specs.Asks as ask;
+ghost use Rattle.frame_types.specs.Limits.{sessions};
+ghost use Rattle.frame_types.specs.ReplyData.{EndsAt};
+ghost use Rattle.hub_spec.specs.Giving.{AfterEach, AnswersAfter, body_in};
+ghost use Rattle.hub_spec.specs.Ports as ports;
+ghost use Rattle.hub_core.specs.Holding.{Holds, version_of};
 
+use crate::engine::Engine;
 use crate::refused;
-use crate::views::View;
 use cell_core::{Columns, Schema, SchemaRefused, Steps, Text};
 use frame_types::{Body, Refusal, Request};
-use hub_ports::Ports;
 use std::alloc::Global;
 use std::sync::ledger::Ledger;
 use table_core::Table;
 
-/// The number of sessions, 0 to 65. Those of clients are 0 to 63.
-pub const SESSIONS: usize = 66;
-
-/// What a hub holds besides its counts of requests: the table, its ports and the views.
+/// What a hub holds besides its counts of requests: nothing until a table is made.
 #[derive(Drop)]
 pub struct Machine {
-    pub alloc: Global,
-    pub table: Option<Table>,
-    /// How many batches were applied.
-    pub version: u64,
-    pub ports: Ports,
-    pub views: Vec<View>,
-    /// How many views each session has opened.
-    pub opened: [u64; SESSIONS],
-    /// The table takes each batch that waits.
-    ghost taken: { AreTaken (schema_in table) ports.live } by { AreTaken-prop (schema_in table) ports.live },
+    alloc: Global,
+    pub engine: Option<Engine>,
 }
 
 impl Machine {
-    ghost use Rattle.std.specs.Prelude.{◌≡◌, ℕ, ℤ, List, [], Option, Some, None, Ok, IfOk, IfErr, ◌<◌, ◌≤◌, ◌^◌, length};
-    ghost use Rattle.cell_core.specs.declared.schema.ColumnWords.{ColumnWords};
-    ghost use Rattle.cell_core.specs.Schemas.{schema_of};
-    ghost use Rattle.frame_types.specs.Asks as ask;
-    ghost use Rattle.frame_types.specs.Refusals as refusals;
-    ghost use Rattle.frame_types.specs.ReplyData.{EndsAt};
-    ghost use Rattle.hub_spec.specs.Answered.{Answered};
-    ghost use Rattle.hub_core.specs.Holding.{Holds, Does};
-    ghost use Rattle.hub_core.specs.Refusing.{body_in};
-
     /// The machine before any request.
     pub fn new(alloc: Global) -> Machine
         ensures { Holds result [] }
     {
         Machine {
             alloc,
-            table: None,
-            version: 0,
-            ports: Ports::new(alloc),
-            views: Vec::new(alloc),
-            opened: [0; SESSIONS],
+            engine: None,
         }
     }
 
-    /// Answers one request of a session, where the history isn't full. A delta in the answer ends at the version
-    /// that the machine then has.
+    /// How many batches were applied.
+    pub fn version(&self) -> u64
+        ensures value { result ≡ version_of self.now }
+        ensures holds { AfterEach (Holds self.now) (λ past. result ≡ ports.version past) }
+    {
+        match &self.engine {
+            Some(engine) => engine.version,
+            None => 0,
+        }
+    }
+
+    /// Answers one request of a session, where the history isn't full.
     pub fn act<L: Ledger>(&mut self, session: u32, request: Request, steps: &mut Steps<L>) -> Body
-        requires { session ≤ 65 }
-        ensures does { (past : List Answered) → Holds self.old past → length past < 2 ^ 53
-            → Does past session (ask.request_view request) result self.new }
-        ensures ends { EndsAt self.new.version result }
+        requires { session < sessions }
+        ensures gives { AnswersAfter (Holds self.old) session (ask.request_view request) result (Holds self.new) }
+        ensures ends { EndsAt (version_of self.new) result }
     {
         match self.answer(session, request, steps) {
             Ok(answer) => answer,
@@ -74,10 +62,21 @@ impl Machine {
         request: Request,
         steps: &mut Steps<L>,
     ) -> Result<Body, Refusal>
-        requires { session ≤ 65 }
-        ensures does { (past : List Answered) → Holds self.old past → length past < 2 ^ 53
-            → Does past session (ask.request_view request) (body_in result) self.new }
-        ensures ends { IfOk result (EndsAt self.new.version) }
+        requires { session < sessions }
+        ensures gives { AnswersAfter (Holds self.old) session (ask.request_view request) (body_in result) (Holds self.new) }
+        ensures ends { EndsAt (version_of self.new) (body_in result) }
+    {
+        match &mut self.engine {
+            Some(engine) => engine.answer(session, request, steps),
+            None => self.begin(request),
+        }
+    }
+
+    /// The answer where no table was made.
+    fn begin(&mut self, request: Request) -> Result<Body, Refusal>
+        requires { self.old.engine ≡ None }
+        ensures gives { (session : ℕ) → AnswersAfter (Holds self.old) session (ask.request_view request) (body_in result) (Holds self.new) }
+        ensures ends { (at : ℕ) → EndsAt at (body_in result) }
     {
         match request {
             Request::Table {
@@ -85,21 +84,9 @@ impl Machine {
                 index,
                 limit,
             } => self.make_table(columns, index, limit),
-            Request::Port => self.make_port(),
-            Request::Leave => Ok(self.leave(session)),
-            Request::Info => self.info(),
-            Request::Update { port, rows } => self.update(port, rows, steps),
-            Request::Replace { port, rows } => self.replace(port, rows, steps),
-            Request::Csv { port, text } => self.csv(port, text, steps),
-            Request::Remove { port, keys } => self.remove(port, keys),
-            Request::Clear { port } => self.clear(port),
-            Request::ClosePort { port } => self.close_port(port),
-            Request::Apply { port } => self.apply(port, steps),
-            Request::Open { plan, bound } => self.open(session, plan, bound, steps),
-            Request::Take { view, wait: _ } => self.take(session, view),
-            Request::Rows { view, from, to } => self.rows(session, view, from, to),
-            Request::Close { view } => self.close(session, view),
+            Request::Leave => Ok(Body::Left { closed: 0 }),
             Request::Unread(why) => Err(refused::unread(why)),
+            _ => Err(refused::no_table()),
         }
     }
 
@@ -110,46 +97,19 @@ impl Machine {
         index: Option<Text>,
         limit: Option<i64>,
     ) -> Result<Body, Refusal>
-        ensures does { (past : List Answered) → Holds self.old past → length past < 2 ^ 53
-            → (session : ℕ) → Does past session (ask.table columns index limit) (body_in result) self.new }
-        ensures ends { IfOk result (EndsAt self.new.version) }
+        requires { self.old.engine ≡ None }
+        ensures gives { (session : ℕ) → AnswersAfter (Holds self.old) session (ask.table columns index limit) (body_in result) (Holds self.new) }
+        ensures ends { (at : ℕ) → EndsAt at (body_in result) }
     {
-        if self.table.is_some() {
-            return Err(refused::table_set());
-        }
-        match Schema::make(self.alloc, columns, index, limit) {
-            Ok(schema) => self.keep_table(schema),
-            Err(SchemaRefused::Bad { cause, at }) => Err(refused::bad_schema(cause, at)),
-            Err(SchemaRefused::Memory) => Err(refused::memory()),
-        }
-    }
-
-    /// Makes the table of a schema, where there is none yet.
-    fn keep_table(&mut self, schema: Schema) -> Result<Body, Refusal>
-        requires { self.old.table ≡ None }
-        ensures does { (past : List Answered) → Holds self.old past
-            → (session : ℕ) (columns : List ColumnWords) (index : Option (List ℕ)) (limit : Option ℤ)
-            → schema_of columns index limit ≡ Ok schema
-            → Does past session (ask.table columns index limit) (body_in result) self.new }
-        ensures ends { IfOk result (EndsAt self.new.version) }
-    {
-        match Table::make(self.alloc, schema) {
-            Ok(table) => {
-                self.table = Some(table);
-                Ok(Body::Table)
-            }
-            Err((_memory, _schema)) => Err(refused::memory()),
-        }
-    }
-
-    /// The table, once one was made.
-    pub fn table(&self) -> Result<&Table, Refusal>
-        ensures ok { IfOk result (λ table. self.now.table ≡ Some table.now) }
-        ensures err { IfErr result (λ why. (self.now.table ≡ None) × (why ≡ refusals.no_table)) }
-    {
-        match &self.table {
-            Some(table) => Ok(table),
-            None => Err(refused::no_table()),
-        }
+        let schema = match Schema::make(self.alloc, columns, index, limit) {
+            Ok(schema) => schema,
+            Err(SchemaRefused::Bad { cause, at }) => return Err(refused::bad_schema(cause, at)),
+            Err(SchemaRefused::Memory) => return Err(refused::memory()),
+        };
+        let Ok(table) = Table::make(self.alloc, schema) else {
+            return Err(refused::memory());
+        };
+        self.engine = Some(Engine::new(self.alloc, table));
+        Ok(Body::Table)
     }
 }

@@ -3,7 +3,6 @@ ghost use Rattle.frame_types.specs.Refusals as refusals;
 ghost use Rattle.hub_core.specs.Refusing.{rows_refusal};
 ghost use Rattle.frame_types.specs.declared.reply.Cause.TheVariants as cause;
 
-use crate::views::MAX_VIEWS;
 use cell_core::{MAX_ROWS, Numbers, SchemaCause};
 use frame_types::{Cause, FrameCause, Refusal};
 use hub_ports::MAX_PORTS;
@@ -14,13 +13,6 @@ fn refused(code: u8, cause: Cause, at: Numbers) -> Refusal
     ensures { result ≡ record { code = code; cause = cause; at = at } }
 {
     Refusal { code, cause, at }
-}
-
-/// The form isn't built yet.
-pub fn unbuilt() -> Refusal
-    ensures { result ≡ refusals.bad_frame cause.Unbuilt }
-{
-    refused(1, Cause::Unbuilt, Numbers::Zero)
 }
 
 /// The line is no request.
@@ -147,34 +139,6 @@ pub fn empty() -> Refusal
     ensures { result ≡ refusals.empty }
 {
     refused(12, Cause::Empty, Numbers::Zero)
-}
-
-/// 16 views are held.
-pub fn too_many_views() -> Refusal
-    ensures { result ≡ refusals.too_many_views }
-{
-    refused(14, Cause::TooManyViews, Numbers::One(MAX_VIEWS as u64))
-}
-
-/// The session holds no view of that number.
-pub fn no_view() -> Refusal
-    ensures { result ≡ refusals.no_view }
-{
-    refused(15, Cause::NoView, Numbers::Zero)
-}
-
-/// An update of the view found no memory, at that version.
-pub fn view_lost(version: u64) -> Refusal
-    ensures { result ≡ refusals.view_lost version }
-{
-    refused(16, Cause::ViewLost, Numbers::One(version))
-}
-
-/// The window ends before it begins.
-pub fn bad_window(from: u64, to: u64) -> Refusal
-    ensures { result ≡ refusals.bad_window from to }
-{
-    refused(20, Cause::Window, Numbers::Two(from, to))
 }
 
 pub fn no_table() -> Refusal

@@ -8,7 +8,7 @@ ghost use Rattle.hub_ports.specs.Ports.{waiting_on};
 ghost use Rattle.hub_spec.specs.Room.{different, keys_put};
 ghost use Rattle.hub_core.specs.Rooms.{IsCounted, over, room_taken};
 
-use crate::machine::Machine;
+use crate::engine::Engine;
 use cell_core::{Cell, Keeping, MAX_ROWS, Memory, Steps};
 use port_queue::PortQueue;
 use row_batch::{Batch, Patch, PatchCell};
@@ -20,7 +20,7 @@ use table_core::Table;
 /// Keys that the table doesn't hold.
 type NewKeys = BTreeMap<Cell, ()>;
 
-impl Machine {
+impl Engine {
     /// How many rows the table may come to with the waiting batches and one more, where these are more
     /// than 65,536.
     pub fn too_many_rows<L: Ledger>(
@@ -30,18 +30,15 @@ impl Machine {
     ) -> Result<Option<u64>, Memory>
         ensures { IfOk result (λ would. would ≡ over (room_taken self.now.table self.now.ports batch.now)) }
     {
-        let Some(table) = &self.table else {
-            return Ok(None);
-        };
-        let rows = table.size() as u64;
+        let rows = self.table.size() as u64;
         let Some(all) = sum_of(rows, self.ports.rows_waiting(), batch.rows() as u64) else {
             return Err(Memory);
         };
         if all <= MAX_ROWS as u64 {
             return Ok(None);
         }
-        match table.schema().keeping() {
-            Keeping::Indexed(column) => self.too_many_keys(table, column, batch, steps),
+        match self.table.schema().keeping() {
+            Keeping::Indexed(column) => self.too_many_keys(column, batch, steps),
             Keeping::Limited(_) => Ok(None),
             Keeping::Free => Ok(Some(all)),
         }
@@ -50,14 +47,14 @@ impl Machine {
     /// The same of a table with an index: rows of one key are one row.
     fn too_many_keys<L: Ledger>(
         &self,
-        table: &Table,
         column: usize,
         batch: &Batch,
         steps: &mut Steps<L>,
     ) -> Result<Option<u64>, Memory>
         ensures { IfOk result (λ would. would
-            ≡ over (different (keys_of_rows table.now.store.pairs ++ flat_map (keys_put column) (waiting_on self.now.ports.live ++ batch.now ∷ [])))) }
+            ≡ over (different (keys_of_rows self.now.table.store.pairs ++ flat_map (keys_put column) (waiting_on self.now.ports.live ++ batch.now ∷ [])))) }
     {
+        let table = &self.table;
         let rows = table.size() as u64;
         let mut found = NewKeys::new(self.alloc);
         for port in self.ports.as_slice() {

@@ -12,10 +12,10 @@ use Rattle.row_batch.specs.Tables.{keys_of_rows}
 use Rattle.row_batch.proofs.Keys.{KeepsKeys, batch_keeps, empty_is_counted}
 use Rattle.frame_types.specs.Asks.{Ask}
 use Rattle.frame_types.specs.Asks as ask
+use Rattle.frame_types.specs.ReplyData.{ReplyData}
 use Rattle.frame_types.specs.declared.reply.Body.{Body}
 use Rattle.frame_types.specs.declared.reply.Body.TheVariants as body
 use Rattle.frame_types.specs.declared.reply.Refusal.{Refusal}
-use Rattle.frame_types.specs.declared.reply.Reply.{Reply}
 use Rattle.view_types.specs.declared.key.ViewKey.{ViewKey}
 use Rattle.view_types.specs.declared.shown.Shown.{Shown}
 use Rattle.delta_core.specs.KeySets.{is_among, with_keys}
@@ -26,10 +26,10 @@ use Rattle.delta_core.proofs.KeySetLemmas.{is_among-with_keys}
 use Rattle.plain_view.specs.Flat.{flat_view}
 use Rattle.plain_view.specs.Touching.{PlacedRow, head_touched, key_of, placed, touched_keys}
 use Rattle.plain_view.proofs.TouchLaws.{IsSorted, sorted_view, sorted_nothing, touched_agree, touched_keys-itself, head_touched-exact, head_touched-itself, delta_restores}
-use Rattle.hub_spec.specs.Answered.{Answered}
+use Rattle.hub_spec.specs.Past.{PastStep}
 use Rattle.hub_spec.specs.Bases.{base, base_or_none, delta_in, dirty, edit_by, fold_in, folded_after, folded_in, head_dirty, is_base, mark_in, no_base, placed_in, shown_by, shown_in, tells_of}
 use Rattle.hub_spec.specs.HeldViews.{HeldView, held, is_view, lost_at, opened_view, views, with_view}
-use Rattle.hub_spec.specs.Histories.{Entry, answered, answer_to}
+use Rattle.hub_spec.specs.Histories.{Entry, past_of, answer_to}
 use Rattle.hub_spec.specs.Laws.{DeltasFold}
 use Rattle.hub_spec.specs.Ports.{Applied, applied, version_after}
 use Rattle.hub_spec.specs.Rows.{put_applied, rows, schema_or_none}
@@ -41,16 +41,16 @@ keys_kept : (schema : SchemaData) (s : Store) (done : List Applied) → KeepsKey
 keys_kept schema s [] h = h
 keys_kept schema s (a ∷ done) h = keys_kept schema (put_applied schema s a) done (batch_keeps schema s a.batch h.0 h.1)
 
-pub distinct_rows : (past : List Answered) → AreDistinct (keys_of_rows (rows past))
+pub distinct_rows : (past : List PastStep) → AreDistinct (keys_of_rows (rows past))
 distinct_rows past = (keys_kept (schema_or_none past) empty_store (applied past) (tt, empty_is_counted (schema_or_none past).keeping)).0
 
 -- ---- what a view shows
 
-pub sorted_by_view : (past : List Answered) (v : Option HeldView) → IsSorted (shown_by past v)
+pub sorted_by_view : (past : List PastStep) (v : Option HeldView) → IsSorted (shown_by past v)
 sorted_by_view past None = sorted_nothing
 sorted_by_view past (Some v) = sorted_view (schema_or_none past) (rows past) (distinct_rows past)
 
-shown_of_some : (past : List Answered) (v : Option HeldView) → is_some v ≡ true → shown_by past v ≡ flat_view (schema_or_none past) (rows past)
+pub shown_of_some : (past : List PastStep) (v : Option HeldView) → is_some v ≡ true → shown_by past v ≡ flat_view (schema_or_none past) (rows past)
 shown_of_some past None is = absurd (let wrong : false ≡ true = is in cc)
 shown_of_some past (Some v) is = refl
 
@@ -59,7 +59,7 @@ shown_of_some past (Some v) is = refl
 abbrev Has : ℕ → ℕ → List HeldView → Bool
 Has session number vs = is_some (find (is_view session number) vs)
 
-has_is_any : (test : HeldView → Bool) (vs : List HeldView) → is_some (find test vs) ≡ list_any test vs
+pub has_is_any : (test : HeldView → Bool) (vs : List HeldView) → is_some (find test vs) ≡ list_any test vs
 has_is_any test [] = refl
 has_is_any test (v ∷ vs) = by (test v) (has_is_any test vs)
   where
@@ -115,11 +115,11 @@ any_lost session number at lost (v ∷ vs) = by (list_any (λ (w : ℕ × ℕ). 
     by true later = later
     by false later = later
 
-abbrev step : ℕ → Ask → ℕ → ℕ → Body → Answered
+abbrev step : ℕ → Ask → ℕ → ℕ → Body → PastStep
 step session request n at answer = record { session = session; request = request; reply = record { n = n; version = at; body = answer } }
 
 -- a view that is held was held before, or has its base in this step
-held_before : (past : List Answered) (session n at : ℕ) (request : Ask) (answer : Body) (s number : ℕ)
+held_before : (past : List PastStep) (session n at : ℕ) (request : Ask) (answer : Body) (s number : ℕ)
     → is_some (held (step session request n at answer ∷ past) s number) ≡ true
     → (is_base s number (step session request n at answer) ≡ true) ⊎ (is_some (held past s number) ≡ true)
 held_before past session n at (ask.open_view plan bound) (body.Opened edit shown view) s number h =
@@ -160,7 +160,7 @@ unedited_lost at lost vs all = All-map IsUnedited (lost_at at lost) vs (All-weak
         by true = h
         by false = h
 
-unedited_step : (past : List Answered) (session : ℕ) (answer : Body) (request : Ask) (vs : List HeldView) → All IsUnedited vs → All IsUnedited (with_view past session answer request vs)
+unedited_step : (past : List PastStep) (session : ℕ) (answer : Body) (request : Ask) (vs : List HeldView) → All IsUnedited vs → All IsUnedited (with_view past session answer request vs)
 unedited_step past session (body.Opened edit shown view) (ask.open_view plan bound) vs all = All-push IsUnedited vs (opened_view session view plan bound) all refl
 unedited_step past session (body.Opened edit shown view) request vs all = all
 unedited_step past session (body.AppliedLosing lost port seq) request vs all = unedited_lost (version_after past (body.AppliedLosing lost port seq)) lost vs all
@@ -168,7 +168,7 @@ unedited_step past session (body.Closed view) request vs all = All-filter (λ v.
 unedited_step past session (body.Left closed) request vs all = All-filter (λ v. not (eqb v.session session)) IsUnedited vs all
 unedited_step past session _ request vs all = all
 
-unedited : (past : List Answered) → All IsUnedited (views past)
+unedited : (past : List PastStep) → All IsUnedited (views past)
 unedited [] = All-nil IsUnedited
 unedited (d ∷ past) = unedited_step past d.session d.reply.body d.request (views past) (unedited past)
 
@@ -180,7 +180,7 @@ edit_of_found test (v ∷ vs) all = by (test v) (edit_of_found test vs (All-tail
     by true later = All-head IsUnedited v vs all
     by false later = later
 
-pub no_edit : (past : List Answered) (s number : ℕ) → edit_by (held past s number) ≡ 0
+pub no_edit : (past : List PastStep) (s number : ℕ) → edit_by (held past s number) ≡ 0
 no_edit past s number = edit_of_found (is_view s number) (views past) (unedited past)
 
 -- ---- what holds of a view after each step
@@ -190,7 +190,7 @@ neither true b h = absurd (let wrong : true ≡ false = h in cc)
 neither false b h = (refl, h)
 
 -- outside the dirty keys a view shows what it showed at its base
-pub agree_since : (past : List Answered) (s number : ℕ)
+pub agree_since : (past : List PastStep) (s number : ℕ)
     → Agree key_of (dirty past s number) (placed (base_or_none past s number).shown.rows) (placed (shown_in past s number).rows)
 agree_since [] s number = λ k off. refl
 agree_since (d ∷ past) s number = by (is_base s number d) refl (agree_since past s number)
@@ -207,7 +207,7 @@ agree_since (d ∷ past) s number = by (is_base s number d) refl (agree_since pa
         before k parts.0 ∙ touched_agree (placed_in past s number) (placed_in (d ∷ past) s number) k parts.1)
 
 -- and so is its header, where no step touched that
-pub headers_since : (past : List Answered) (s number : ℕ) → head_dirty past s number ≡ false
+pub headers_since : (past : List PastStep) (s number : ℕ) → head_dirty past s number ≡ false
     → (base_or_none past s number).shown.header ≡ (shown_in past s number).header
 headers_since [] s number = λ none. refl
 headers_since (d ∷ past) s number = by (is_base s number d) refl (headers_since past s number)
@@ -225,7 +225,7 @@ headers_since (d ∷ past) s number = by (is_base s number d) refl (headers_sinc
         let parts = neither (head_dirty past s number) touched none in
         before parts.0 ∙ head_touched-exact (shown_in past s number) (shown_in (d ∷ past) s number) parts.1)
 
-pub sorted_base : (past : List Answered) (s number : ℕ) → IsSorted (base_or_none past s number).shown
+pub sorted_base : (past : List PastStep) (s number : ℕ) → IsSorted (base_or_none past s number).shown
 sorted_base [] s number = sorted_nothing
 sorted_base (d ∷ past) s number = by (is_base s number d) refl (sorted_base past s number)
   where
@@ -233,7 +233,7 @@ sorted_base (d ∷ past) s number = by (is_base s number d) refl (sorted_base pa
     by true here before = rw here (sorted_by_view (d ∷ past) (held (d ∷ past) s number))
     by false other before = rw other before
 
-pub record Kept (past : List Answered) (s number : ℕ) : Type 0 where
+pub record Kept (past : List PastStep) (s number : ℕ) : Type 0 where
   pub folds : folded_in past s number ≡ base past s number
   pub based : is_some (held past s number) ≡ true → is_some (base past s number) ≡ true
 
@@ -242,7 +242,7 @@ same_held : (a b : Shown) (v w e f : ℕ) → a ≡ b → v ≡ w → e ≡ f
 same_held a b v w e f p q r = cc
 
 -- the base is there where it isn't none
-based_at : (past : List Answered) (s number : ℕ) → is_some (base past s number) ≡ true → base past s number ≡ Some (base_or_none past s number)
+based_at : (past : List PastStep) (s number : ℕ) → is_some (base past s number) ≡ true → base past s number ≡ Some (base_or_none past s number)
 based_at past s number some = by (base past s number) some
   where
     by : (o : Option Held) → is_some o ≡ true → o ≡ Some (unwrap_or o no_base)
@@ -250,7 +250,7 @@ based_at past s number some = by (base past s number) some
     by (Some held) h = refl
 
 -- a delta that is taken folds into the base
-delta_folds : (past : List Answered) (s number : ℕ) → is_some (held past s number) ≡ true → Kept past s number
+delta_folds : (past : List PastStep) (s number : ℕ) → is_some (held past s number) ≡ true → Kept past s number
     → option_and_then (fold_in (delta_in past s number)) (folded_in past s number) ≡ Some (record { shown = shown_in past s number; mark = mark_in past s number })
 delta_folds past s number some kept =
     let was : Held = base_or_none past s number in
@@ -260,7 +260,7 @@ delta_folds past s number some kept =
     rw now (rw restored.0 (ap Some restored.1))
 
 -- where a step is the base of a view, what a client holds of it is what is shown then
-folds_base : (past : List Answered) (s n at number : ℕ) (request : Ask) (answer : Body) → Says past s request answer → at ≡ version_after past answer
+folds_base : (past : List PastStep) (s n at number : ℕ) (request : Ask) (answer : Body) → Says past s request answer → at ≡ version_after past answer
     → tells_of number answer ≡ true → Kept past s number
     → folded_after number at answer (folded_in past s number)
     ≡ Some (record { shown = shown_in (step s request n at answer ∷ past) s number; mark = mark_in (step s request n at answer ∷ past) s number })
@@ -298,7 +298,7 @@ and_true : (a b : Bool) → (a && b) ≡ true → (a ≡ true) × (b ≡ true)
 and_true true b h = (refl, h)
 and_true false b h = absurd (let wrong : false ≡ true = h in cc)
 
-stays_folded : (past : List Answered) (session n at s number : ℕ) (request : Ask) (answer : Body) → is_base s number (step session request n at answer) ≡ false
+stays_folded : (past : List PastStep) (session n at s number : ℕ) (request : Ask) (answer : Body) → is_base s number (step session request n at answer) ≡ false
     → folded_in (step session request n at answer ∷ past) s number ≡ folded_in past s number
 stays_folded past session n at s number request answer other = by (eqb session s) refl
   where
@@ -309,7 +309,7 @@ stays_folded past session n at s number request answer other = by (eqb session s
       | inr theirs ↦ absurd (let wrong : true ≡ false = sym is ∙ theirs in cc)
     ]
 
-kept_at_base : (past : List Answered) (session n at s number : ℕ) (request : Ask) (answer : Body) → Says past session request answer → at ≡ version_after past answer
+kept_at_base : (past : List PastStep) (session n at s number : ℕ) (request : Ask) (answer : Body) → Says past session request answer → at ≡ version_after past answer
     → is_base s number (step session request n at answer) ≡ true → Kept past s number → Kept (step session request n at answer ∷ past) s number
 kept_at_base past session n at s number request answer says version here kept =
     let after = step session request n at answer ∷ past in
@@ -321,7 +321,7 @@ kept_at_base past session n at s number request answer says version here kept =
       based = λ some. rw here refl;
     }
 
-kept_between : (past : List Answered) (session n at s number : ℕ) (request : Ask) (answer : Body)
+kept_between : (past : List PastStep) (session n at s number : ℕ) (request : Ask) (answer : Body)
     → is_base s number (step session request n at answer) ≡ false → Kept past s number → Kept (step session request n at answer ∷ past) s number
 kept_between past session n at s number request answer other kept =
     let after = step session request n at answer ∷ past in
@@ -333,7 +333,7 @@ kept_between past session n at s number request answer other kept =
       ];
     }
 
-kept_step : (past : List Answered) (session n at s number : ℕ) (request : Ask) (answer : Body) → Says past session request answer → at ≡ version_after past answer
+kept_step : (past : List PastStep) (session n at s number : ℕ) (request : Ask) (answer : Body) → Says past session request answer → at ≡ version_after past answer
     → Kept past s number → Kept (step session request n at answer ∷ past) s number
 kept_step past session n at s number request answer says version kept = by (is_base s number (step session request n at answer)) refl
   where
@@ -341,14 +341,14 @@ kept_step past session n at s number request answer says version kept = by (is_b
     by true here = kept_at_base past session n at s number request answer says version here kept
     by false other = kept_between past session n at s number request answer other kept
 
-pub kept : (limit : ℕ) (h : List Entry) (s number : ℕ) → Kept (answered limit h) s number
+pub kept : (limit : ℕ) (h : List Entry) (s number : ℕ) → Kept (past_of limit h) s number
 kept limit [] s number = record {
   folds = refl;
   based = λ some. some;
 }
 kept limit (e ∷ h) s number =
-    let past = answered limit h in
-    let reply : Reply = answer_to limit past e.session e.request e.choice in
+    let past = past_of limit h in
+    let reply : ReplyData = answer_to limit past e.session e.request e.choice in
     kept_step past e.session reply.n reply.version s number e.request reply.body (says_answer limit past e.session e.request e.choice) refl (kept limit h s number)
 
 pub deltas_fold : DeltasFold
@@ -356,13 +356,13 @@ deltas_fold limit h session number = (kept limit h session number).folds
 
 -- ---- a step that changes neither rows nor views touches nothing
 
-pub touches_nothing : (past : List Answered) (rows : List PlacedRow) (s number : ℕ) → with_keys (dirty past s number) (touched_keys rows rows) ≡ dirty past s number
+pub touches_nothing : (past : List PastStep) (rows : List PlacedRow) (s number : ℕ) → with_keys (dirty past s number) (touched_keys rows rows) ≡ dirty past s number
 touches_nothing past rows s number = ap (with_keys (dirty past s number)) (touched_keys-itself rows)
 
-pub touches_no_header : (past : List Answered) (shows : Shown) (s number : ℕ) → (head_dirty past s number || head_touched shows shows) ≡ head_dirty past s number
+pub touches_no_header : (past : List PastStep) (shows : Shown) (s number : ℕ) → (head_dirty past s number || head_touched shows shows) ≡ head_dirty past s number
 touches_no_header past shows s number = ap (λ b. head_dirty past s number || b) (head_touched-itself shows) ∙ or_false_right (head_dirty past s number)
 
-pub same_folded : (past : List Answered) (session n at s number : ℕ) (request : Ask) (why : Refusal)
+pub same_folded : (past : List PastStep) (session n at s number : ℕ) (request : Ask) (why : Refusal)
     → folded_in (step session request n at (body.Refused why) ∷ past) s number ≡ folded_in past s number
 same_folded past session n at s number request why = by (eqb session s)
   where

@@ -1,5 +1,7 @@
+pub mod Calling
+pub mod Counting
+pub mod Folding
+pub mod Giving
 pub mod Ports
 pub mod Said
 pub mod Worked
-pub mod Folding
-pub mod Calling

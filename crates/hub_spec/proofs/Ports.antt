@@ -7,11 +7,11 @@ use Rattle.std.proofs.Math.Seq.{take-suc}
 use Rattle.row_batch.specs.Batches.{Store, empty_store, put_batch}
 use Rattle.row_batch.specs.declared.batch.Batch.{Batch}
 use Rattle.frame_types.specs.Asks.{Ask}
+use Rattle.frame_types.specs.ReplyData.{ReplyData}
 use Rattle.frame_types.specs.declared.reply.Body.{Body}
 use Rattle.frame_types.specs.declared.reply.Body.TheVariants as body
-use Rattle.frame_types.specs.declared.reply.Reply.{Reply}
-use Rattle.hub_spec.specs.Answered.{Answered}
-use Rattle.hub_spec.specs.Histories.{Entry, answered, answer_to}
+use Rattle.hub_spec.specs.Past.{PastStep}
+use Rattle.hub_spec.specs.Histories.{Entry, past_of, answer_to}
 use Rattle.hub_spec.specs.Laws.{batches_on, seqs_on, counted, AppliedThenWaiting, AppliedInOrder, RowsAreApplied}
 use Rattle.hub_spec.specs.Ports.{Applied, with_batch, with_first}
 use Rattle.hub_spec.specs.Ports as history
@@ -50,7 +50,7 @@ pub record Kept (port : ℕ) (done : List Applied) (taken : ℕ) (accepted : Lis
   pub seqs : seqs_on port done ≡ counted taken
   pub within : taken ≤ length accepted
 
-abbrev pub KeptIn : List Answered → ℕ → Type 0
+abbrev pub KeptIn : List PastStep → ℕ → Type 0
 KeptIn past port = Kept port (history.applied past) (history.taken past port) (history.accepted past port)
 
 kept_queued : (here : Bool) (b : Option Batch) (port taken : ℕ) (done : List Applied) (accepted : List Batch) → Kept port done taken accepted
@@ -87,7 +87,7 @@ kept_applied_there port at seq taken done (b ∷ rest) accepted there kept =
       within = kept.within;
     }
 
-kept_applied : (past : List Answered) (at port : ℕ) (here : Bool) → eqb at port ≡ here → eqb (length (history.waiting past at)) 0 ≡ false → KeptIn past port
+kept_applied : (past : List PastStep) (at port : ℕ) (here : Bool) → eqb at port ≡ here → eqb (length (history.waiting past at)) 0 ≡ false → KeptIn past port
     → Kept port (with_first (history.waiting past at) at (history.taken past at + 1) (history.applied past)) (cond here (history.taken past port + 1) (history.taken past port)) (history.accepted past port)
 kept_applied past at port false is some kept =
     kept_applied_there port at (history.taken past at + 1) (history.taken past port) (history.applied past) (history.waiting past at) (history.accepted past port) is kept
@@ -95,7 +95,7 @@ kept_applied past at port true is some kept =
     rw (eqb-true at port is) (kept_applied_here port port (history.taken past port) (history.applied past) (history.waiting past port) (history.accepted past port)
     (rw (eqb-true at port is) at is) refl (rw (eqb-true at port is) at some) kept)
 
-kept_step : (past : List Answered) (session n version : ℕ) (request : Ask) (answer : Body) (port : ℕ) → Says past session request answer → KeptIn past port
+kept_step : (past : List PastStep) (session n version : ℕ) (request : Ask) (answer : Body) (port : ℕ) → Says past session request answer → KeptIn past port
     → KeptIn (record { session = session; request = request; reply = record { n = n; version = version; body = answer } } ∷ past) port
 kept_step past session n version request (body.Queued at seq) port says kept =
     kept_queued (eqb at port) (batch_asked (history.schema past) request) port (history.taken past port) (history.applied past) (history.accepted past port) kept
@@ -103,18 +103,18 @@ kept_step past session n version request (body.Applied at seq) port says kept = 
 kept_step past session n version request (body.AppliedLosing lost at seq) port says kept = kept_applied past at port (eqb at port) refl says kept
 kept_step past session n version request _ port says kept = kept
 
-pub kept : (limit : ℕ) (h : List Entry) (port : ℕ) → KeptIn (answered limit h) port
+pub kept : (limit : ℕ) (h : List Entry) (port : ℕ) → KeptIn (past_of limit h) port
 kept limit [] port = record { batches = refl; seqs = refl; within = omega arith }
 kept limit (e ∷ h) port =
-    let past = answered limit h in
-    let reply : Reply = answer_to limit past e.session e.request e.choice in
+    let past = past_of limit h in
+    let reply : ReplyData = answer_to limit past e.session e.request e.choice in
     kept_step past e.session reply.n reply.version e.request reply.body port (says_answer limit past e.session e.request e.choice) (kept limit h port)
 
 -- ---- the laws
 
 pub applied_then_waiting : AppliedThenWaiting
 applied_then_waiting limit h port =
-    let past = answered limit h in
+    let past = past_of limit h in
     ap (λ bs. bs ++ history.waiting past port) (kept limit h port).batches ∙ take-append-drop (history.taken past port) (history.accepted past port)
 
 pub applied_in_order : AppliedInOrder

@@ -3,16 +3,16 @@ use Rattle.std.proofs.Common.{◌≡◌, ℕ, eqb, leb, List, [], ◌∷◌, len
 use Rattle.std.specs.Prelude.{is_some, if◌then◌else◌}
 use Rattle.frame_types.specs.Asks.{Ask}
 use Rattle.frame_types.specs.Asks as ask
-use Rattle.frame_types.specs.Refusals.{history_full}
+use Rattle.frame_types.specs.Refusals.{empty, history_full}
 use Rattle.frame_types.specs.declared.reply.Body.{Body}
 use Rattle.frame_types.specs.declared.reply.Body.TheVariants as body
 use Rattle.frame_types.specs.declared.reply.Refusal.{Refusal}
 use Rattle.plain_view.specs.Flat.{flat_view}
-use Rattle.hub_spec.specs.Answered.{Answered}
-use Rattle.hub_spec.specs.Answers.{first_of, refusals, granted, plain, taken_of, window_of}
+use Rattle.hub_spec.specs.Past.{PastStep}
+use Rattle.hub_spec.specs.Answers.{first_of, refused_if, refusals, granted, plain, take_answer, window_of}
 use Rattle.hub_spec.specs.Bases.{delta_in, edit_by, shown_by}
 use Rattle.hub_spec.specs.HeldViews.{HeldView, held, shown}
-use Rattle.hub_spec.specs.Histories.{Choice, plenty, want, losing, chosen, losing_in}
+use Rattle.hub_spec.specs.Histories.{Choice, plenty, want, losing, answer_under, losing_in}
 use Rattle.hub_spec.specs.Ports.{waiting}
 use Rattle.hub_spec.specs.Rows.{schema_or_none, rows}
 
@@ -22,7 +22,7 @@ IsOpening _ = ⊥
 
 -- where a batch was applied, one waited on that port; an opening and a resynchronisation have all that is shown; a
 -- delta and a resynchronisation are of a view that is held
-abbrev pub Says : List Answered → ℕ → Ask → Body → Type 0
+abbrev pub Says : List PastStep → ℕ → Ask → Body → Type 0
 Says past session request (body.Applied port seq) = eqb (length (waiting past port)) 0 ≡ false
 Says past session request (body.AppliedLosing lost port seq) = eqb (length (waiting past port)) 0 ≡ false
 Says past session request (body.Opened edit shown view) = IsOpening request × (edit ≡ 0) × (shown ≡ flat_view (schema_or_none past) (rows past))
@@ -31,53 +31,56 @@ Says past session request (body.Resync bound edit shown view) =
     (edit ≡ edit_by (held past session view)) × (shown ≡ shown_by past (held past session view))
 Says past session request _ = Unit {0}
 
-abbrev pub NoneHolds : List (Bool × Refusal) → Type 0
-NoneHolds [] = Unit {0}
-NoneHolds (check ∷ more) = (check.0 ≡ false) × NoneHolds more
+abbrev pub NoneRefuses : List (Option Refusal) → Type 0
+NoneRefuses [] = Unit {0}
+NoneRefuses (check ∷ more) = (check ≡ None) × NoneRefuses more
 
-says_first : (past : List Answered) (session : ℕ) (request : Ask) (checks : List (Bool × Refusal)) (answer : Body)
-    → (NoneHolds checks → Says past session request answer) → Says past session request (first_of checks answer)
+says_first : (past : List PastStep) (session : ℕ) (request : Ask) (checks : List (Option Refusal)) (answer : Body)
+    → (NoneRefuses checks → Says past session request answer) → Says past session request (first_of checks answer)
 says_first past session request [] answer says = says tt
-says_first past session request ((true, why) ∷ more) answer says = tt
-says_first past session request ((false, why) ∷ more) answer says = says_first past session request more answer (λ none. says (refl, none))
+says_first past session request (Some why ∷ more) answer says = tt
+says_first past session request (None ∷ more) answer says = says_first past session request more answer (λ none. says (refl, none))
 
-says_window : (past : List Answered) (session : ℕ) (request : Ask) (v : Option HeldView) (view first end : ℕ)
+not_refused : (b : Bool) (why : Refusal) → refused_if b why ≡ None → b ≡ false
+not_refused true why none = absurd (let wrong : Some why ≡ None = none in cc)
+not_refused false why none = refl
+
+says_window : (past : List PastStep) (session : ℕ) (request : Ask) (v : Option HeldView) (view first end : ℕ)
     → Says past session request (window_of v (shown past) view first end)
 says_window past session request None view first end = tt
 says_window past session request (Some v) view first end = tt
 
-says_within : (past : List Answered) (session view : ℕ) (request : Ask) (v : HeldView) (within : Bool) → held past session view ≡ Some v
+says_within : (past : List PastStep) (session view : ℕ) (request : Ask) (v : HeldView) (within : Bool) → held past session view ≡ Some v
     → Says past session request (if within then body.Delta (delta_in past session view) view else body.Resync v.bound v.edit (shown past v) view)
 says_within past session view request v true is = (rw is refl, refl)
 says_within past session view request v false is = (rw is refl, rw is refl)
 
-says_taken : (past : List Answered) (session view : ℕ) (request : Ask) (v : Option HeldView) → held past session view ≡ v
-    → Says past session request (taken_of past session view v)
+says_taken : (past : List PastStep) (session view : ℕ) (request : Ask) (v : Option HeldView) → held past session view ≡ v
+    → Says past session request (take_answer past session view v)
 says_taken past session view request None is = tt
 says_taken past session view request (Some v) is = says_within past session view request v _ is
 
-says_granted : (past : List Answered) (session : ℕ) (request : Ask) → NoneHolds (refusals past session request) → Says past session request (granted past session request)
-says_granted past session (ask.apply port) none = none.1.1.0
+says_granted : (past : List PastStep) (session : ℕ) (request : Ask) → NoneRefuses (refusals past session request) → Says past session request (granted past session request)
+says_granted past session (ask.apply port) none = not_refused (eqb (length (waiting past port)) 0) empty none.1.1.0
 says_granted past session (ask.open_view plan bound) none = (tt, refl, refl)
 says_granted past session (ask.take view wait) none = says_taken past session view (ask.take view wait) (held past session view) refl
 says_granted past session (ask.rows view first end) none = says_window past session (ask.rows view first end) (held past session view) view first end
 says_granted past session _ none = tt
 
-says_losing : (past : List Answered) (session : ℕ) (request : Ask) (lost : List (ℕ × ℕ)) (answer : Body) → Says past session request answer
+says_losing : (past : List PastStep) (session : ℕ) (request : Ask) (lost : List (ℕ × ℕ)) (answer : Body) → Says past session request answer
     → Says past session request (losing_in lost answer)
 says_losing past session request lost (body.Applied port seq) says = says
 says_losing past session request lost _ says = says
 
-says_chosen : (past : List Answered) (session : ℕ) (request : Ask) (choice : Choice) (answer : Body) → Says past session request answer
-    → Says past session request (chosen choice answer)
+says_chosen : (past : List PastStep) (session : ℕ) (request : Ask) (choice : Choice) (answer : Body) → Says past session request answer
+    → Says past session request (answer_under choice answer)
 says_chosen past session request plenty answer says = says
 says_chosen past session request want answer says = tt
 says_chosen past session request (losing lost) answer says = says_losing past session request lost answer says
 
-pub says_answer : (limit : ℕ) (past : List Answered) (session : ℕ) (request : Ask) (choice : Choice)
-    → Says past session request (chosen choice (plain limit past session request))
+pub says_answer : (limit : ℕ) (past : List PastStep) (session : ℕ) (request : Ask) (choice : Choice)
+    → Says past session request (answer_under choice (plain limit past session request))
 says_answer limit past session request choice =
-    let full : Bool × Refusal = (leb limit (length past), history_full limit) in
-    let checks = full ∷ refusals past session request in
+    let checks : List (Option Refusal) = refused_if (leb limit (length past)) (history_full limit) ∷ refusals past session request in
     says_chosen past session request choice (plain limit past session request)
-    (says_first past session request checks (granted past session request) (λ (none : NoneHolds checks). says_granted past session request none.1))
+    (says_first past session request checks (granted past session request) (λ (none : NoneRefuses checks). says_granted past session request none.1))

@@ -31,13 +31,13 @@ use Rattle.plain_view.specs.Flat.{flat_view}
 use Rattle.frame_types.specs.Asks.{Ask}
 use Rattle.frame_types.specs.Asks as ask
 use Rattle.frame_types.specs.Refusals.{no_table, table_set, bad_schema, no_port, port_closed, too_many_ports, bad_rows, not_indexed, port_full, table_full, empty, bad_frame, history_full, too_many_views, no_view, view_lost, bad_window, memory}
+use Rattle.frame_types.specs.ReplyData.{ReplyData}
 use Rattle.frame_types.specs.declared.reply.Body.{Body}
 use Rattle.frame_types.specs.declared.reply.Body.TheVariants as body
 use Rattle.frame_types.specs.declared.reply.Cause.TheVariants as cause
-use Rattle.frame_types.specs.declared.reply.Reply.{Reply}
 use Rattle.frame_types.specs.declared.request.FrameCause.TheVariants as frame
 use Rattle.hub_spec.specs.Room.{different}
-use Rattle.hub_spec.specs.Histories.{Entry, Choice, plenty, want, losing, answer, answered, is_allowed, followed, told}
+use Rattle.hub_spec.specs.Histories.{Entry, Choice, plenty, want, losing, answer, past_of, is_allowed, history_after, entry_of}
 
 -- ---- how requests, rows and replies are written here
 
@@ -52,7 +52,7 @@ by session request choice = record { session = session; request = request; choic
 abbrev asks : Ask → Entry
 asks request = by 0 request plenty
 
-abbrev reply : ℕ → ℕ → Body → Reply
+abbrev reply : ℕ → ℕ → Body → ReplyData
 reply n version answer = record { n = n; version = version; body = answer }
 
 abbrev refused_unbuilt : Body
@@ -523,13 +523,13 @@ seventeen_views = refl
 pub told_of_the_table : answer roomy with_batch (asks ask.info) ≡ reply 4 0 (body.Info (integer_column (codes "k") ∷ integer_column (codes "v") ∷ []) (Some (codes "k")) None 0 1)
 told_of_the_table = refl
 
-pub no_want_of_a_close : is_allowed roomy (answered roomy with_view) 0 (ask.close 0) want ≡ false
+pub no_want_of_a_close : is_allowed roomy (past_of roomy with_view) 0 (ask.close 0) want ≡ false
 no_want_of_a_close = refl
 
-pub no_want_of_a_closed_port : is_allowed roomy (answered roomy with_port) 0 (ask.close_port 0) want ≡ false
+pub no_want_of_a_closed_port : is_allowed roomy (past_of roomy with_port) 0 (ask.close_port 0) want ≡ false
 no_want_of_a_closed_port = refl
 
-pub no_want_of_leaving : is_allowed roomy (answered roomy with_view) 0 ask.leave want ≡ false
+pub no_want_of_leaving : is_allowed roomy (past_of roomy with_view) 0 ask.leave want ≡ false
 no_want_of_leaving = refl
 
 -- ---- slots and running numbers
@@ -570,6 +570,10 @@ want_is_said = refl
 pub apply_after_want : answer roomy (by 0 (ask.apply 0) want ∷ with_batch) (asks (ask.apply 0)) ≡ reply 5 1 (body.Applied 0 1)
 apply_after_want = refl
 
+-- a refusal drops no batch
+pub apply_after_a_refusal : answer roomy (asks (ask.apply 1) ∷ with_batch) (asks (ask.apply 0)) ≡ reply 5 1 (body.Applied 0 1)
+apply_after_a_refusal = refl
+
 pub port_after_want : answer roomy (by 0 ask.port want ∷ with_table) (asks ask.port) ≡ reply 3 0 (body.Port 0)
 port_after_want = refl
 
@@ -578,7 +582,7 @@ unfolding value_order
 view_after_want = refl
 
 abbrev may_want : List Entry → Ask → Bool
-may_want h request = is_allowed roomy (answered roomy h) 0 request want
+may_want h request = is_allowed roomy (past_of roomy h) 0 request want
 
 pub want_of_a_table : may_want [] make_table ≡ true
 want_of_a_table = refl
@@ -619,7 +623,7 @@ no_want_of_an_unread_line = refl
 pub no_want_of_an_unbuilt_line : may_want with_table (ask.unread frame.Unbuilt) ≡ false
 no_want_of_an_unbuilt_line = refl
 
-pub no_want_of_a_full_history : is_allowed 2 (answered 2 with_port) 0 make_table want ≡ false
+pub no_want_of_a_full_history : is_allowed 2 (past_of 2 with_port) 0 make_table want ≡ false
 no_want_of_a_full_history = refl
 
 -- ---- a full history
@@ -630,7 +634,7 @@ full_at_two = refl
 pub full_of_another_session : answer 2 with_port (by 7 ask.port plenty) ≡ reply 1 0 (body.Refused (history_full 2))
 full_of_another_session = refl
 
-pub full_stays : followed 2 with_port (told 0 ask.port (answer 2 with_port (asks ask.port))) ≡ with_port
+pub full_stays : history_after 2 with_port (entry_of 0 ask.port (answer 2 with_port (asks ask.port))) ≡ with_port
 full_stays = refl
 
 pub not_yet_full : answer 3 with_port (asks (ask.apply 0)) ≡ reply 3 0 (body.Refused empty)
@@ -639,7 +643,7 @@ not_yet_full = refl
 -- ---- lost views
 
 abbrev may_lose : List Entry → Ask → List (ℕ × ℕ) → Bool
-may_lose h request lost = is_allowed roomy (answered roomy h) 0 request (losing lost)
+may_lose h request lost = is_allowed roomy (past_of roomy h) 0 request (losing lost)
 
 abbrev one_waiting : List Entry
 one_waiting = asks (update (one_row (only_k (pos 1)))) ∷ with_view

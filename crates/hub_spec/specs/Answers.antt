@@ -1,7 +1,8 @@
 -- What a request is answered where memory is plenty: the first refusal whose condition holds, and
 -- else what is granted.
-use Rattle.std.specs.Prelude.{ℕ, ◌+◌, ◌==◌, nat_lt, nat_le, List, [], ◌∷◌, ◌++◌, length, map, slice_get, Bool, true, false, not, Option, Some, None, is_some, is_none, unwrap_or, option_map, option_and_then, Result, Ok, Err, if◌then◌else◌}
-use Rattle.plain_data.specs.Faults.{first_fault}
+use Rattle.std.specs.Prelude.{ℕ, ◌+◌, ◌==◌, nat_lt, nat_le, List, [], ◌∷◌, ◌++◌, length, map, slice_get, Bool, true, false, not, Option, Some, None, is_some, is_none, option_map, option_and_then, Result, Ok, Err, if◌then◌else◌}
+use Rattle.cell_core.specs.Keepings.{is_indexed}
+use Rattle.cell_core.specs.Limits.{max_rows}
 use Rattle.cell_core.specs.RawData.{RawData, raw_map, no_raw_members}
 use Rattle.cell_core.specs.Schemas.{SchemaData, schema_of, type_name}
 use Rattle.cell_core.specs.declared.schema.Column.{Column}
@@ -21,103 +22,108 @@ use Rattle.frame_types.specs.declared.reply.Cause.TheVariants.{Unbuilt}
 use Rattle.frame_types.specs.declared.reply.Refusal.{Refusal}
 use Rattle.plain_view.specs.Flat.{window}
 use Rattle.view_types.specs.declared.shown.Shown.{Shown}
-use Rattle.hub_spec.specs.Answered.{Answered}
+use Rattle.hub_spec.specs.Past.{PastStep}
 use Rattle.hub_spec.specs.Bases.{delta_in, dirty}
 use Rattle.hub_spec.specs.HeldViews.{HeldView, views, held, held_by, opened, opened_view, shown}
+use Rattle.hub_spec.specs.Limits.{max_waiting, max_ports, max_views}
 use Rattle.hub_spec.specs.Ports.{schema as schema_made, ports, has_port, is_closed, used_ports, accepted, taken, waiting, all_waiting}
 use Rattle.hub_spec.specs.Reading.{read_batch, batch_asked}
 use Rattle.hub_spec.specs.Room.{rows_with}
 use Rattle.hub_spec.specs.Rows.{schema_or_none, rows}
 
+-- the refusal, where its condition holds
+abbrev pub refused_if : Bool → Refusal → Option Refusal
+refused_if true why = Some why
+refused_if false why = None
+
 abbrev pub unless_refused : Option Refusal → Body → Body
-unless_refused None granted = granted
-unless_refused (Some why) granted = body.Refused why
+unless_refused None grant = grant
+unless_refused (Some why) grant = body.Refused why
 
--- the first check that holds refuses; where none holds the answer is what is granted
-abbrev pub first_of : List (Bool × Refusal) → Body → Body
-first_of checks granted = unless_refused (first_fault checks) granted
+-- the first of these that is a refusal; where none is, the answer is what is granted
+abbrev pub first_of : List (Option Refusal) → Body → Body
+first_of [] grant = grant
+first_of (check ∷ checks) grant = unless_refused check (first_of checks grant)
 
--- ---- checks
+-- ---- checks, each with its refusal
 
-abbrev pub without_table : List Answered → Bool × Refusal
-without_table past = (is_none (schema_made past), no_table)
+abbrev pub without_table : List PastStep → Option Refusal
+without_table past = refused_if (is_none (schema_made past)) no_table
 
-abbrev pub without_port : List Answered → ℕ → Bool × Refusal
-without_port past port = (not (has_port past port), no_port)
+abbrev pub without_port : List PastStep → ℕ → Option Refusal
+without_port past port = refused_if (not (has_port past port)) no_port
 
-abbrev pub closed_port : List Answered → ℕ → Bool × Refusal
-closed_port past port = (is_closed past port, port_closed)
+abbrev pub closed_port : List PastStep → ℕ → Option Refusal
+closed_port past port = refused_if (is_closed past port) port_closed
 
 -- the schema's first fault
-abbrev pub faulty_schema : Result SchemaData SchemaRefused → Bool × Refusal
-faulty_schema (Ok made) = (false, memory)
-faulty_schema (Err (schema.Bad why at)) = (true, bad_schema why at)
-faulty_schema (Err schema.Memory) = (true, memory)
+abbrev pub faulty_schema : Result SchemaData SchemaRefused → Option Refusal
+faulty_schema (Ok made) = None
+faulty_schema (Err (schema.Bad why at)) = Some (bad_schema why at)
+faulty_schema (Err schema.Memory) = Some memory
 
 -- the first cause against the rows or keys
-abbrev pub faulty_rows : Option (Result Batch BatchRefused) → Bool × Refusal
-faulty_rows None = (false, memory)
-faulty_rows (Some (Ok batch)) = (false, memory)
-faulty_rows (Some (Err why)) = (true, bad_rows why)
+abbrev pub faulty_rows : Option (Result Batch BatchRefused) → Option Refusal
+faulty_rows None = None
+faulty_rows (Some (Ok batch)) = None
+faulty_rows (Some (Err why)) = Some (bad_rows why)
 
-abbrev pub bad_batch : List Answered → Ask → Bool × Refusal
+abbrev pub bad_batch : List PastStep → Ask → Option Refusal
 bad_batch past request = faulty_rows (option_and_then (λ made. read_batch made request) (schema_made past))
 
-abbrev pub is_indexed : Keeping → Bool
-is_indexed (Indexed column) = true
-is_indexed (Limited slots) = false
-is_indexed Free = false
+abbrev pub without_index : List PastStep → Option Refusal
+without_index past = refused_if (not (is_indexed (schema_or_none past).keeping)) not_indexed
 
-abbrev pub without_index : List Answered → Bool × Refusal
-without_index past = (not (is_indexed (schema_or_none past).keeping), not_indexed)
+abbrev pub full_port : List PastStep → ℕ → Option Refusal
+full_port past port = refused_if (nat_le max_waiting (length (waiting past port))) port_full
 
-abbrev pub full_port : List Answered → ℕ → Bool × Refusal
-full_port past port = (nat_le 64 (length (waiting past port)), port_full)
+-- the rows may come to more than a table has
+abbrev pub too_many_rows : ℕ → Option Refusal
+too_many_rows would = refused_if (nat_lt max_rows would) (table_full would)
 
--- the rows may come to more than 65,536
-abbrev pub too_many_rows : ℕ → Bool × Refusal
-too_many_rows would = (nat_lt 65536 would, table_full would)
-
-abbrev pub full_table_for : List Answered → Option Batch → Bool × Refusal
-full_table_for past None = (false, memory)
+abbrev pub full_table_for : List PastStep → Option Batch → Option Refusal
+full_table_for past None = None
 full_table_for past (Some batch) = too_many_rows (rows_with (schema_or_none past).keeping past batch)
 
-abbrev pub full_table : List Answered → Ask → Bool × Refusal
+abbrev pub full_table : List PastStep → Ask → Option Refusal
 full_table past request = full_table_for past (batch_asked (schema_made past) request)
 
-abbrev pub without_view : List Answered → ℕ → ℕ → Bool × Refusal
-without_view past session view = (is_none (held past session view), no_view)
+abbrev pub nothing_waits : List PastStep → ℕ → Option Refusal
+nothing_waits past port = refused_if (length (waiting past port) == 0) empty
 
-abbrev pub lost_view : Option HeldView → Bool × Refusal
-lost_view None = (false, view_lost 0)
-lost_view (Some v) = (is_some v.lost, view_lost (unwrap_or v.lost 0))
+abbrev pub without_view : List PastStep → ℕ → ℕ → Option Refusal
+without_view past session view = refused_if (is_none (held past session view)) no_view
+
+abbrev pub lost_view : Option HeldView → Option Refusal
+lost_view None = None
+lost_view (Some v) = option_map view_lost v.lost
 
 abbrev pub is_empty_plan : RawData → Bool
 is_empty_plan (raw_map no_raw_members) = true
 is_empty_plan other = false
 
 -- a plan other than `{}` isn't built yet
-abbrev pub unbuilt_plan : RawData → Bool × Refusal
-unbuilt_plan plan = (not (is_empty_plan plan), bad_frame Unbuilt)
+abbrev pub unbuilt_plan : RawData → Option Refusal
+unbuilt_plan plan = refused_if (not (is_empty_plan plan)) (bad_frame Unbuilt)
 
 -- ---- refusals, in the order in which they are tested
 
 -- of a request that needs an open port
-abbrev pub port_checks : List Answered → ℕ → List (Bool × Refusal)
+abbrev pub port_checks : List PastStep → ℕ → List (Option Refusal)
 port_checks past port = without_table past ∷ without_port past port ∷ closed_port past port ∷ []
 
 -- of a request that puts rows
-abbrev pub putting : List Answered → ℕ → Ask → List (Bool × Refusal)
+abbrev pub putting : List PastStep → ℕ → Ask → List (Option Refusal)
 putting past port request = port_checks past port ++ bad_batch past request ∷ full_port past port ∷ full_table past request ∷ []
 
-abbrev pub refusals : List Answered → ℕ → Ask → List (Bool × Refusal)
+abbrev pub refusals : List PastStep → ℕ → Ask → List (Option Refusal)
 refusals past session (ask.table columns index limit) =
-    (is_some (schema_made past), table_set)
+    refused_if (is_some (schema_made past)) table_set
     ∷ faulty_schema (schema_of columns index limit)
     ∷ []
 refusals past session ask.port =
     without_table past
-    ∷ (nat_le 16 (length (used_ports past)), too_many_ports)
+    ∷ refused_if (nat_le max_ports (length (used_ports past))) too_many_ports
     ∷ []
 refusals past session ask.leave = []
 refusals past session ask.info = without_table past ∷ []
@@ -131,12 +137,12 @@ refusals past session (ask.close_port port) = port_checks past port
 refusals past session (ask.apply port) =
     without_table past
     ∷ without_port past port
-    ∷ (length (waiting past port) == 0, empty)
+    ∷ nothing_waits past port
     ∷ []
 refusals past session (ask.open_view plan bound) =
     without_table past
     ∷ unbuilt_plan plan
-    ∷ (nat_le 16 (length (views past)), too_many_views)
+    ∷ refused_if (nat_le max_views (length (views past))) too_many_views
     ∷ []
 refusals past session (ask.take view wait) =
     without_table past
@@ -147,20 +153,20 @@ refusals past session (ask.rows view first end) =
     without_table past
     ∷ without_view past session view
     ∷ lost_view (held past session view)
-    ∷ (nat_lt end first, bad_window first end)
+    ∷ refused_if (nat_lt end first) (bad_window first end)
     ∷ []
 refusals past session (ask.close view) =
     without_table past
     ∷ without_view past session view
     ∷ []
-refusals past session (ask.unread why) = (true, bad_frame (frame_cause why)) ∷ []
+refusals past session (ask.unread why) = Some (bad_frame (frame_cause why)) ∷ []
 
 -- ---- what is granted
 
 -- the delta of a view where no more keys are dirty than its bound, and else all that it shows
-abbrev pub taken_of : List Answered → ℕ → ℕ → Option HeldView → Body
-taken_of past session view None = body.Refused no_view
-taken_of past session view (Some v) =
+abbrev pub take_answer : List PastStep → ℕ → ℕ → Option HeldView → Body
+take_answer past session view None = body.Refused no_view
+take_answer past session view (Some v) =
     if nat_le (length (dirty past session view)) v.bound then body.Delta (delta_in past session view) view
     else body.Resync v.bound v.edit (shown past v) view
 
@@ -169,7 +175,7 @@ window_of None shows view first end = body.Refused no_view
 window_of (Some v) shows view first end = body.Rows v.edit first (window first end (shows v)) (length (shows v).rows) view
 
 -- the number of the batch that is queued next
-abbrev pub queued : List Answered → ℕ → Body
+abbrev pub queued : List PastStep → ℕ → Body
 queued past port = body.Queued port (length (accepted past port) + 1)
 
 abbrev pub column_words : Column → ColumnWords
@@ -185,15 +191,15 @@ limit_in (Indexed column) = None
 limit_in (Limited slots) = Some slots
 limit_in Free = None
 
-abbrev pub told_of : SchemaData → ℕ → ℕ → Body
-told_of made size waits =
+abbrev pub info_of : SchemaData → ℕ → ℕ → Body
+info_of made size waits =
     body.Info (map column_words made.columns) (index_name made made.keeping) (limit_in made.keeping) size waits
 
-abbrev pub granted : List Answered → ℕ → Ask → Body
+abbrev pub granted : List PastStep → ℕ → Ask → Body
 granted past session (ask.table columns index limit) = body.Table
 granted past session ask.port = body.Port (ports past)
 granted past session ask.leave = body.Left (held_by past session)
-granted past session ask.info = told_of (schema_or_none past) (length (rows past)) (length (all_waiting past))
+granted past session ask.info = info_of (schema_or_none past) (length (rows past)) (length (all_waiting past))
 granted past session (ask.update port rows) = queued past port
 granted past session (ask.replace port rows) = queued past port
 granted past session (ask.csv port text) = queued past port
@@ -203,12 +209,12 @@ granted past session (ask.close_port port) = body.PortClosed port
 granted past session (ask.apply port) = body.Applied port (taken past port + 1)
 granted past session (ask.open_view plan bound) =
     body.Opened 0 (shown past (opened_view session (opened past session) plan bound)) (opened past session)
-granted past session (ask.take view wait) = taken_of past session view (held past session view)
+granted past session (ask.take view wait) = take_answer past session view (held past session view)
 granted past session (ask.rows view first end) = window_of (held past session view) (shown past) view first end
 granted past session (ask.close view) = body.Closed view
 granted past session (ask.unread why) = body.Refused (bad_frame (frame_cause why))
 
 -- the answer of a history of at most `limit` steps, where memory is plenty
-abbrev pub plain : ℕ → List Answered → ℕ → Ask → Body
+abbrev pub plain : ℕ → List PastStep → ℕ → Ask → Body
 plain limit past session request =
-    first_of ((nat_le limit (length past), history_full limit) ∷ refusals past session request) (granted past session request)
+    first_of (refused_if (nat_le limit (length past)) (history_full limit) ∷ refusals past session request) (granted past session request)

@@ -13,7 +13,7 @@ use Rattle.delta_core.specs.declared.folding.Held.{Held}
 use Rattle.frame_types.specs.declared.reply.Body.{Body}
 use Rattle.frame_types.specs.declared.reply.Body.TheVariants as body
 use Rattle.plain_view.specs.Touching.{PlacedRow, head_touched, placed, touched_keys}
-use Rattle.hub_spec.specs.Answered.{Answered}
+use Rattle.hub_spec.specs.Past.{PastStep}
 use Rattle.hub_spec.specs.HeldViews.{HeldView, held, shown}
 use Rattle.hub_spec.specs.Ports.{version}
 
@@ -22,15 +22,15 @@ use Rattle.hub_spec.specs.Ports.{version}
 abbrev pub nothing_shown : Shown
 nothing_shown = record { header = []; rows = [] }
 
-abbrev pub shown_by : List Answered → Option HeldView → Shown
+abbrev pub shown_by : List PastStep → Option HeldView → Shown
 shown_by past None = nothing_shown
 shown_by past (Some v) = shown past v
 
-abbrev pub shown_in : List Answered → ℕ → ℕ → Shown
+abbrev pub shown_in : List PastStep → ℕ → ℕ → Shown
 shown_in past session number = shown_by past (held past session number)
 
 -- its rows with the places by which they are sorted
-abbrev pub placed_in : List Answered → ℕ → ℕ → List PlacedRow
+abbrev pub placed_in : List PastStep → ℕ → ℕ → List PlacedRow
 placed_in past session number = placed (shown_in past session number).rows
 
 abbrev pub edit_by : Option HeldView → ℕ
@@ -38,23 +38,23 @@ edit_by None = 0
 edit_by (Some v) = v.edit
 
 -- how many batches were applied, and how many edits of the view were answered
-abbrev pub mark_in : List Answered → ℕ → ℕ → Mark
+abbrev pub mark_in : List PastStep → ℕ → ℕ → Mark
 mark_in past session number = record { version = version past; edit = edit_by (held past session number) }
 
 -- ---- the base
 
 -- the answer opens the view of that number, or is a delta or a resynchronisation of it
 abbrev pub tells_of : ℕ → Body → Bool
-tells_of number (body.Opened edit shown view) = view == number
+tells_of number (body.Opened edit seen view) = view == number
 tells_of number (body.Delta delta view) = view == number
-tells_of number (body.Resync bound edit shown view) = view == number
+tells_of number (body.Resync bound edit seen view) = view == number
 tells_of number _ = false
 
-abbrev pub is_base : ℕ → ℕ → Answered → Bool
+abbrev pub is_base : ℕ → ℕ → PastStep → Bool
 is_base session number d = tells_of number d.reply.body && d.session == session
 
 -- what the view showed at its base, and its mark there
-abbrev pub base : List Answered → ℕ → ℕ → Option Held
+abbrev pub base : List PastStep → ℕ → ℕ → Option Held
 base [] session number = None
 base (d ∷ past) session number =
     if is_base session number d then Some (record { shown = shown_in (d ∷ past) session number; mark = mark_in (d ∷ past) session number })
@@ -63,27 +63,27 @@ base (d ∷ past) session number =
 abbrev pub no_base : Held
 no_base = record { shown = nothing_shown; mark = record { version = 0; edit = 0 } }
 
-abbrev pub base_or_none : List Answered → ℕ → ℕ → Held
+abbrev pub base_or_none : List PastStep → ℕ → ℕ → Held
 base_or_none past session number = unwrap_or (base past session number) no_base
 
 -- ---- what was touched since the base
 
 -- all keys that a step since the base touched
-abbrev pub dirty : List Answered → ℕ → ℕ → List ViewKey
+abbrev pub dirty : List PastStep → ℕ → ℕ → List ViewKey
 dirty [] session number = []
 dirty (d ∷ past) session number =
     if is_base session number d then []
     else with_keys (dirty past session number) (touched_keys (placed_in past session number) (placed_in (d ∷ past) session number))
 
 -- whether one of these steps touched the header
-abbrev pub head_dirty : List Answered → ℕ → ℕ → Bool
+abbrev pub head_dirty : List PastStep → ℕ → ℕ → Bool
 head_dirty [] session number = false
 head_dirty (d ∷ past) session number =
     if is_base session number d then false
     else head_dirty past session number || head_touched (shown_in past session number) (shown_in (d ∷ past) session number)
 
 -- from what was shown at the base to what is shown now, by the dirty keys
-abbrev pub delta_in : List Answered → ℕ → ℕ → Delta
+abbrev pub delta_in : List PastStep → ℕ → ℕ → Delta
 delta_in past session number =
     let was = base_or_none past session number in
     delta_of (marked was.shown.rows (dirty past session number)) (head_dirty past session number) (shown_in past session number)
@@ -95,16 +95,16 @@ abbrev pub fold_in : Delta → Held → Option Held
 fold_in delta was = if is_none (fold_fault was delta) then Some (folded was delta) else None
 
 abbrev pub folded_after : ℕ → ℕ → Body → Option Held → Option Held
-folded_after number at (body.Opened edit shown view) was =
-    if view == number then Some (record { shown = shown; mark = record { version = at; edit = edit } }) else was
+folded_after number at (body.Opened edit seen view) was =
+    if view == number then Some (record { shown = seen; mark = record { version = at; edit = edit } }) else was
 folded_after number at (body.Delta delta view) was = if view == number then option_and_then (fold_in delta) was else was
-folded_after number at (body.Resync bound edit shown view) was =
-    if view == number then Some (record { shown = shown; mark = record { version = at; edit = edit } }) else was
+folded_after number at (body.Resync bound edit seen view) was =
+    if view == number then Some (record { shown = seen; mark = record { version = at; edit = edit } }) else was
 folded_after number at _ was = was
 
 -- the last opening or resynchronisation of the view, with the deltas after it folded in; none before it was
 -- opened, or where a delta can't be folded
-abbrev pub folded_in : List Answered → ℕ → ℕ → Option Held
+abbrev pub folded_in : List PastStep → ℕ → ℕ → Option Held
 folded_in [] session number = None
 folded_in (d ∷ past) session number =
     if d.session == session then folded_after number d.reply.version d.reply.body (folded_in past session number)

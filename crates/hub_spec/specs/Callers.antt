@@ -1,9 +1,9 @@
 -- What a call of a caller does to the history that it stands for.
 use Rattle.std.specs.Prelude.{◌≡◌, ℕ, List, [], ◌∷◌, ◌++◌, Bool, true, not, ◌&&◌}
 use Rattle.frame_types.specs.Asks.{Ask}
-use Rattle.frame_types.specs.declared.reply.Reply.{Reply}
+use Rattle.frame_types.specs.ReplyData.{ReplyData}
 use Rattle.hub_spec.specs.Histories.{Entry}
-use Rattle.hub_spec.specs.Runs.{Steps}
+use Rattle.hub_spec.specs.Runs.{AnswersOneStep}
 
 -- no entry is of a session that is spoken for
 abbrev pub is_foreign_to : (ℕ → Bool) → List Entry → Bool
@@ -14,7 +14,7 @@ abbrev pub SpeaksForAll : (ℕ → Bool) → Type 0
 SpeaksForAll speaks = (session : ℕ) → speaks session ≡ true
 
 -- entries came of sessions that are not spoken for, and then the step that was asked
-pub record Calls (limit : ℕ) (speaks : ℕ → Bool) (h : List Entry) (session : ℕ) (request : Ask) (reply : Reply) (Stands : List Entry → Type 0) : Type 0 where
+pub record Calls (limit : ℕ) (speaks : ℕ → Bool) (h : List Entry) (session : ℕ) (request : Ask) (reply : ReplyData) (Stands : List Entry → Type 0) : Type 0 where
   pub others : List Entry
   pub foreign : is_foreign_to speaks others ≡ true
-  pub step : Steps limit (others ++ h) session request reply Stands
+  pub step : AnswersOneStep limit (others ++ h) session request reply Stands

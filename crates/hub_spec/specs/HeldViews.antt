@@ -9,7 +9,7 @@ use Rattle.frame_types.specs.declared.reply.Body.{Body}
 use Rattle.frame_types.specs.declared.reply.Body.TheVariants as body
 use Rattle.plain_view.specs.Flat.{flat_view}
 use Rattle.view_types.specs.declared.shown.Shown.{Shown}
-use Rattle.hub_spec.specs.Answered.{Answered, times}
+use Rattle.hub_spec.specs.Past.{PastStep, times}
 use Rattle.hub_spec.specs.Ports.{version_after}
 use Rattle.hub_spec.specs.Rows.{schema_or_none, rows}
 
@@ -32,15 +32,15 @@ pub record HeldView : Type 0 where
   -- the version at which an update of the view found no memory
   pub lost : Option ℕ
 
-abbrev pub is_opened_in : ℕ → Answered → Bool
+abbrev pub is_opened_in : ℕ → PastStep → Bool
 is_opened_in session d = is_opened d.reply.body && d.session == session
   where
     is_opened : Body → Bool
-    is_opened (body.Opened edit shown view) = true
+    is_opened (body.Opened edit seen view) = true
     is_opened _ = false
 
 -- how many views the session has opened; they are numbered from 0
-abbrev pub opened : List Answered → ℕ → ℕ
+abbrev pub opened : List PastStep → ℕ → ℕ
 opened past session = times (is_opened_in session) past
 
 abbrev pub is_view : ℕ → ℕ → HeldView → Bool
@@ -60,29 +60,29 @@ opened_view session number plan bound = record {
   lost = None;
 }
 
-abbrev pub with_view : List Answered → ℕ → Body → Ask → List HeldView → List HeldView
-with_view past session (body.Opened edit shown view) (ask.open_view plan bound) held = held ++ opened_view session view plan bound ∷ []
-with_view past session (body.AppliedLosing lost port seq) request held = map (lost_at (version_after past (body.AppliedLosing lost port seq)) lost) held
-with_view past session (body.Closed view) request held = filter (λ v. not (is_view session view v)) held
-with_view past session (body.Left closed) request held = filter (λ v. not (v.session == session)) held
-with_view past session _ request held = held
+abbrev pub with_view : List PastStep → ℕ → Body → Ask → List HeldView → List HeldView
+with_view past session (body.Opened edit seen view) (ask.open_view plan bound) all = all ++ opened_view session view plan bound ∷ []
+with_view past session (body.AppliedLosing lost port seq) request all = map (lost_at (version_after past (body.AppliedLosing lost port seq)) lost) all
+with_view past session (body.Closed view) request all = filter (λ v. not (is_view session view v)) all
+with_view past session (body.Left closed) request all = filter (λ v. not (v.session == session)) all
+with_view past session _ request all = all
 
 -- the views that are held, in the order in which they were opened
-abbrev pub views : List Answered → List HeldView
+abbrev pub views : List PastStep → List HeldView
 views [] = []
 views (d ∷ past) = with_view past d.session d.reply.body d.request (views past)
 
-abbrev pub held : List Answered → ℕ → ℕ → Option HeldView
+abbrev pub held : List PastStep → ℕ → ℕ → Option HeldView
 held past session number = find (is_view session number) (views past)
 
 -- how many views the session holds
-abbrev pub held_by : List Answered → ℕ → ℕ
+abbrev pub held_by : List PastStep → ℕ → ℕ
 held_by past session = length (filter (λ v. v.session == session) (views past))
 
 -- a view that is held and not lost
-abbrev pub is_live : List Answered → ℕ × ℕ → Bool
+abbrev pub is_live : List PastStep → ℕ × ℕ → Bool
 is_live past w = list_any (λ v. is_view w.0 w.1 v && is_none v.lost) (views past)
 
 -- what a view shows, computed from the rows
-abbrev pub shown : List Answered → HeldView → Shown
+abbrev pub shown : List PastStep → HeldView → Shown
 shown past v = flat_view (schema_or_none past) (rows past)

@@ -5,9 +5,9 @@ use Rattle.frame_types.specs.declared.reply.Body.TheVariants.{Refused}
 use Rattle.frame_types.specs.declared.reply.Refusal.{Refusal}
 use Rattle.row_batch.specs.Batches.{empty_store, put_batch}
 use Rattle.row_batch.specs.declared.batch.Batch.{Batch}
-use Rattle.hub_spec.specs.Answered.{Answered, entries_of}
+use Rattle.hub_spec.specs.Past.{PastStep, entries_of}
 use Rattle.hub_spec.specs.Bases.{base, folded_in}
-use Rattle.hub_spec.specs.Histories.{Entry, answered}
+use Rattle.hub_spec.specs.Histories.{Entry, past_of}
 use Rattle.hub_spec.specs.Ports.{Applied, accepted, taken, waiting, applied}
 use Rattle.hub_spec.specs.Bases as bases
 use Rattle.hub_spec.specs.HeldViews as held
@@ -24,7 +24,7 @@ seqs_on port done = map (λ a. a.seq) (filter (λ a. a.port == port) done)
 -- on each port, the batches that were applied and then those that wait are those that were accepted
 abbrev pub AppliedThenWaiting : Type 0
 AppliedThenWaiting = (limit : ℕ) (h : List Entry) (port : ℕ) →
-    batches_on port (applied (answered limit h)) ++ waiting (answered limit h) port ≡ accepted (answered limit h) port
+    batches_on port (applied (past_of limit h)) ++ waiting (past_of limit h) port ≡ accepted (past_of limit h) port
 
 -- 1 up to a number
 abbrev pub counted : ℕ → List ℕ
@@ -34,23 +34,23 @@ counted (suc n) = counted n ++ (n + 1) ∷ []
 -- on each port, the batches were applied in the order of their numbers, each once
 abbrev pub AppliedInOrder : Type 0
 AppliedInOrder = (limit : ℕ) (h : List Entry) (port : ℕ) →
-    seqs_on port (applied (answered limit h)) ≡ counted (taken (answered limit h) port)
+    seqs_on port (applied (past_of limit h)) ≡ counted (taken (past_of limit h) port)
 
 -- the rows have no other source than the applied batches
 abbrev pub RowsAreApplied : Type 0
-RowsAreApplied = (past : List Answered) →
+RowsAreApplied = (past : List PastStep) →
     rows past ≡ (fold (put_batch (schema_or_none past)) empty_store (map (λ a. a.batch) (applied past))).pairs
 
 -- of each view, what a client holds that folds each delta of it into its opening or its last resynchronisation is
 -- what the view showed at its base, with the mark of the base, and no delta is refused
 abbrev pub Folds : ℕ → List Entry → Type 0
-Folds limit h = (session number : ℕ) → folded_in (answered limit h) session number ≡ base (answered limit h) session number
+Folds limit h = (session number : ℕ) → folded_in (past_of limit h) session number ≡ base (past_of limit h) session number
 
 abbrev pub DeltasFold : Type 0
 DeltasFold = (limit : ℕ) (h : List Entry) → Folds limit h
 
 -- a step that was refused leaves all as it was, but that the session took one step more
-pub record IsUnchanged (session : ℕ) (past after : List Answered) : Type 0 where
+pub record IsUnchanged (session : ℕ) (past after : List PastStep) : Type 0 where
   pub schema : history.schema after ≡ history.schema past
   pub ports : history.ports after ≡ history.ports past
   pub accepted : (port : ℕ) → history.accepted after port ≡ history.accepted past port
@@ -70,5 +70,5 @@ pub record IsUnchanged (session : ℕ) (past after : List Answered) : Type 0 whe
   pub other_counts : (other : ℕ) → (session == other) ≡ false → entries_of after other ≡ entries_of past other
 
 abbrev pub RefusalsChangeNothing : Type 0
-RefusalsChangeNothing = (past : List Answered) (session n version : ℕ) (request : Ask) (why : Refusal) →
+RefusalsChangeNothing = (past : List PastStep) (session n version : ℕ) (request : Ask) (why : Refusal) →
     IsUnchanged session past (record { session = session; request = request; reply = record { n = n; version = version; body = Refused why } } ∷ past)

@@ -8,7 +8,7 @@ use Rattle.frame_types.specs.Asks.{Ask}
 use Rattle.frame_types.specs.Asks as ask
 use Rattle.frame_types.specs.declared.reply.Body.{Body}
 use Rattle.frame_types.specs.declared.reply.Body.TheVariants as body
-use Rattle.hub_spec.specs.Answered.{Answered, times}
+use Rattle.hub_spec.specs.Past.{PastStep, times}
 use Rattle.hub_spec.specs.Reading.{batch_asked}
 
 -- ---- the schema
@@ -22,7 +22,7 @@ with_schema body.Table (ask.table columns index limit) old = made_schema (schema
 with_schema _ request old = old
 
 -- the schema of the table, once one was made
-abbrev pub schema : List Answered → Option SchemaData
+abbrev pub schema : List PastStep → Option SchemaData
 schema [] = None
 schema (d ∷ past) = with_schema d.reply.body d.request (schema past)
 
@@ -33,17 +33,17 @@ is_port (body.Port port) = true
 is_port _ = false
 
 -- how many ports were made; they are numbered from 0
-abbrev pub ports : List Answered → ℕ
+abbrev pub ports : List PastStep → ℕ
 ports past = times (λ d. is_port d.reply.body) past
 
-abbrev pub has_port : List Answered → ℕ → Bool
+abbrev pub has_port : List PastStep → ℕ → Bool
 has_port past port = nat_lt port (ports past)
 
 abbrev pub closes : ℕ → Body → Bool
 closes port (body.PortClosed at) = at == port
 closes port _ = false
 
-abbrev pub is_closed : List Answered → ℕ → Bool
+abbrev pub is_closed : List PastStep → ℕ → Bool
 is_closed [] port = false
 is_closed (d ∷ past) port = closes port d.reply.body || is_closed past port
 
@@ -56,7 +56,7 @@ with_queued made port (body.Queued at seq) request batches = if at == port then 
 with_queued made port _ request batches = batches
 
 -- the batches that were accepted on a port, in order; a batch's `seq` is its place here, counted from 1
-abbrev pub accepted : List Answered → ℕ → List Batch
+abbrev pub accepted : List PastStep → ℕ → List Batch
 accepted [] port = []
 accepted (d ∷ past) port = with_queued (schema past) port d.reply.body d.request (accepted past port)
 
@@ -66,11 +66,11 @@ takes_from port (body.AppliedLosing lost at seq) = at == port
 takes_from port _ = false
 
 -- how many batches of a port were applied
-abbrev pub taken : List Answered → ℕ → ℕ
+abbrev pub taken : List PastStep → ℕ → ℕ
 taken past port = times (λ d. takes_from port d.reply.body) past
 
 -- the accepted batches that were not applied yet, the oldest first
-abbrev pub waiting : List Answered → ℕ → List Batch
+abbrev pub waiting : List PastStep → ℕ → List Batch
 waiting past port = drop (taken past port) (accepted past port)
 
 -- the numbers below n, ascending
@@ -79,14 +79,14 @@ numbers_below zero = []
 numbers_below (suc n) = numbers_below n ++ n ∷ []
 
 -- a port that is open or holds waiting batches
-abbrev pub is_used : List Answered → ℕ → Bool
+abbrev pub is_used : List PastStep → ℕ → Bool
 is_used past port = not (is_closed past port) || nat_lt 0 (length (waiting past port))
 
-abbrev pub used_ports : List Answered → List ℕ
+abbrev pub used_ports : List PastStep → List ℕ
 used_ports past = filter (is_used past) (numbers_below (ports past))
 
 -- the batches that wait on all ports, port by port
-abbrev pub all_waiting : List Answered → List Batch
+abbrev pub all_waiting : List PastStep → List Batch
 all_waiting past = flat_map (waiting past) (numbers_below (ports past))
 
 -- ---- applied batches
@@ -101,20 +101,20 @@ with_first [] port seq done = done
 with_first (b ∷ batches) port seq done = done ++ record { port = port; seq = seq; batch = b } ∷ []
 
 -- a step that is answered so applies the oldest batch that waits on the port before it
-abbrev pub with_applied : List Answered → Body → List Applied → List Applied
+abbrev pub with_applied : List PastStep → Body → List Applied → List Applied
 with_applied past (body.Applied port seq) done = with_first (waiting past port) port (taken past port + 1) done
 with_applied past (body.AppliedLosing lost port seq) done = with_first (waiting past port) port (taken past port + 1) done
 with_applied past _ done = done
 
 -- the batches that were applied, in order
-abbrev pub applied : List Answered → List Applied
+abbrev pub applied : List PastStep → List Applied
 applied [] = []
 applied (d ∷ past) = with_applied past d.reply.body (applied past)
 
 -- how many batches were applied
-abbrev pub version : List Answered → ℕ
+abbrev pub version : List PastStep → ℕ
 version past = length (applied past)
 
 -- the version after a step with this answer
-abbrev pub version_after : List Answered → Body → ℕ
+abbrev pub version_after : List PastStep → Body → ℕ
 version_after past answer = length (with_applied past answer (applied past))

@@ -10,7 +10,7 @@ use Rattle.row_batch.specs.Tables.{keys_of_rows}
 use Rattle.row_batch.specs.declared.batch.Batch.{Batch}
 use Rattle.row_batch.specs.declared.batch.Batch.TheVariants as batch
 use Rattle.row_batch.specs.declared.batch.Pair.{Pair}
-use Rattle.hub_spec.specs.Answered.{Answered}
+use Rattle.hub_spec.specs.Past.{PastStep}
 use Rattle.hub_spec.specs.Ports.{all_waiting}
 use Rattle.hub_spec.specs.Rows.{rows}
 
@@ -34,5 +34,5 @@ rows_of_all (Limited slots) pairs batches = 0
 rows_of_all Free pairs batches = length pairs + sum_by rows_in batches
 
 -- the rows that the table would have with the waiting batches and one more
-abbrev pub rows_with : Keeping → List Answered → Batch → ℕ
+abbrev pub rows_with : Keeping → List PastStep → Batch → ℕ
 rows_with keeping past batch = rows_of_all keeping (rows past) (all_waiting past ++ batch ∷ [])

@@ -1,6 +1,6 @@
 //! What a history of requests is answered: the definitions that every claim of the engine rests on.
 //!
-//! `specs/` has, from below: histories with their answers (`Answered`), the batch that a request asks
+//! `specs/` has, from below: steps with their replies (`Past`), the batch that a request asks
 //! for (`Reading`), ports and their batches (`Ports`), the table's rows (`Rows`), the views that are
 //! held (`HeldViews`), what was told of a view and touched since (`Bases`), the answer where memory is
 //! plenty (`Answers`), choices and legal histories (`Histories`), and runs (`Runs`). The only functions

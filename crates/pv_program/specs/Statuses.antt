@@ -12,9 +12,9 @@ use Rattle.session_core.specs.declared.script.ScriptEnd.TheVariants.{Done, Memor
 -- still has
 pub record StatusSays (code : ℕ) (left : Option (List ℕ)) (given out : List ℕ) : Type 0 where
   -- the input was read to its end, and each line is answered by one reply line
-  pub answered : code ≡ 0 → IsAtEnd left × AnswersLines (lines given) out
+  pub answers : code ≡ 0 → IsAtEnd left × AnswersLines (lines given) out
   -- so the output is the reply lines of one legal history, whose requests are those of the lines
-  pub told : code ≡ 0 → TellsHistory (lines given) out
+  pub tells : code ≡ 0 → TellsHistory (lines given) out
   -- without memory, and after a fault of the sink: the first of the lines so far are answered, and a
   -- front of the next reply line may be there
   pub partly : (code ≡ 1) ⊎ (code ≡ 5) → LinesSoFar left given (λ ls. AnswersFirstLines ls out)

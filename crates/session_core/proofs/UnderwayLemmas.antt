@@ -14,8 +14,8 @@ use Rattle.io_ends.specs.declared.line.LineFault.TheVariants as fault
 use Rattle.frame_types.specs.Asks.{Ask}
 use Rattle.frame_types.specs.declared.reply.Reply.{Reply}
 use Rattle.hub_spec.proofs.Folding.{deltas_fold}
-use Rattle.hub_spec.specs.Histories.{Entry, followed, told}
-use Rattle.hub_spec.specs.Runs.{IsAnswer, Ran, Steps}
+use Rattle.hub_spec.specs.Histories.{Entry, history_after, entry_of}
+use Rattle.hub_spec.specs.Runs.{AnswersOneStep, IsAnswer, AreAnswers}
 use Rattle.session_core.specs.Script.{NextIs, asked_in, asked_of, reply_line, reply_lines, script_limit}
 use Rattle.frame_json.specs.Replies as frame_replies
 use Rattle.frame_json.specs.Requests.{unread_by}
@@ -25,20 +25,20 @@ use Rattle.session_core.specs.declared.script.Fault.TheVariants as stop
 use Rattle.io_ends.specs.declared.sink.SinkFault.{SinkFault}
 use Rattle.io_ends.specs.declared.sink.SinkFault.TheVariants as sunk
 use Rattle.session_core.specs.Faults.{of_line, of_sink, fault_end}
-use Rattle.session_core.specs.Outcome.{AllAnswered, FirstAnswered, LinesSoFar, Moved, Outcome}
+use Rattle.session_core.specs.Outcome.{AnswersAll, AnswersFirst, LinesSoFar, Moved, Outcome}
 use Rattle.session_core.specs.Underway.{Cut, IsCaughtUp, IsPartlyReplied, IsReplied, IsUnderway}
 
 -- ---- runs of requests
 
 -- one more request and its answer
-pub Ran-push : (limit : ℕ) (asked : List (ℕ × Ask)) (replies : List Reply) (h now : List Entry) (q : ℕ × Ask) (r : Reply)
-    → Ran limit h asked replies now → IsAnswer limit now q.0 q.1 r
-    → Ran limit h (asked ++ q ∷ []) (replies ++ r ∷ []) (followed limit now (told q.0 q.1 r))
-Ran-push limit [] [] h now q r ran answer = (subst (λ (p : List Entry). IsAnswer limit p q.0 q.1 r) ran answer, ap (λ (p : List Entry). followed limit p (told q.0 q.1 r)) ran)
-Ran-push limit [] (s ∷ replies) h now q r ran answer = absurd ran
-Ran-push limit (p ∷ asked) [] h now q r ran answer = absurd ran
-Ran-push limit (p ∷ asked) (s ∷ replies) h now q r ran answer =
-    (ran.0, Ran-push limit asked replies (followed limit h (told p.0 p.1 s)) now q r ran.1 answer)
+pub AreAnswers-push : (limit : ℕ) (asked : List (ℕ × Ask)) (replies : List Reply) (h now : List Entry) (q : ℕ × Ask) (r : Reply)
+    → AreAnswers limit h asked replies now → IsAnswer limit now q.0 q.1 r
+    → AreAnswers limit h (asked ++ q ∷ []) (replies ++ r ∷ []) (history_after limit now (entry_of q.0 q.1 r))
+AreAnswers-push limit [] [] h now q r ran answer = (subst (λ (p : List Entry). IsAnswer limit p q.0 q.1 r) ran answer, ap (λ (p : List Entry). history_after limit p (entry_of q.0 q.1 r)) ran)
+AreAnswers-push limit [] (s ∷ replies) h now q r ran answer = absurd ran
+AreAnswers-push limit (p ∷ asked) [] h now q r ran answer = absurd ran
+AreAnswers-push limit (p ∷ asked) (s ∷ replies) h now q r ran answer =
+    (ran.0, AreAnswers-push limit asked replies (history_after limit h (entry_of p.0 p.1 s)) now q r ran.1 answer)
 
 pub map-push : (done : List (List ℕ)) (text : List ℕ) → map asked_of (done ++ text ∷ []) ≡ map asked_of done ++ asked_of text ∷ []
 map-push [] text = refl
@@ -104,14 +104,14 @@ none_asked now [] = (refl, refl)
 none_asked now (text ∷ others) = inl (refl, refl)
 
 -- these lines were answered, and nothing more was written
-all_answered : (Stands : List Entry → Type 0) (all : List (List ℕ)) (replies : List Reply) (now : List Entry)
-    → Ran script_limit [] (map asked_of all) replies now → Stands now → AllAnswered Stands (reply_lines replies) all
-all_answered Stands all replies now ran stands = (record { replies = replies; after = now; written = refl; ran = ran; folds = deltas_fold script_limit now }, stands)
+answers_all : (Stands : List Entry → Type 0) (all : List (List ℕ)) (replies : List Reply) (now : List Entry)
+    → AreAnswers script_limit [] (map asked_of all) replies now → Stands now → AnswersAll Stands (reply_lines replies) all
+answers_all Stands all replies now ran stands = (record { replies = replies; after = now; written = refl; ran = ran; folds = deltas_fold script_limit now }, stands)
 
 -- the first of the lines were answered, and nothing more was asked
-pub first_answered : (Stands : List Entry → Type 0) (done : List (List ℕ)) (replies : List Reply) (now : List Entry)
-    → Ran script_limit [] (map asked_of done) replies now → Stands now → (all : List (List ℕ)) → Splits done all → FirstAnswered Stands (reply_lines replies) all
-first_answered Stands done replies now ran stands all split = (
+pub answers_first : (Stands : List Entry → Type 0) (done : List (List ℕ)) (replies : List Reply) (now : List Entry)
+    → AreAnswers script_limit [] (map asked_of done) replies now → Stands now → (all : List (List ℕ)) → Splits done all → AnswersFirst Stands (reply_lines replies) all
+answers_first Stands done replies now ran stands all split = (
   record {
     done = done;
     others = split.0;
@@ -150,11 +150,11 @@ fails before left left' into written reader given' Stands fault.Read came more d
   run.appended,
   (
     (
-        let P : List (List ℕ) → Type 0 = λ d. AllAnswered Stands (reply_lines replies) d in
+        let P : List (List ℕ) → Type 0 = λ d. AnswersAll Stands (reply_lines replies) d in
         let all : take (2 ^ 30 - reader.given) more ≡ more = take_within more reader.given given' grows bounded in
         let same : ended_lines (came ++ more) ≡ done =
         none_after reader.held more reader.given done came (not_ended reader.ended reader.held left came done still run.cut) (subst (λ (m : List ℕ). NoEnd (reader.held ++ m)) all none) in
-        subst P (sym same) (all_answered Stands done replies now run.ran run.stands)
+        subst P (sym same) (answers_all Stands done replies now run.ran run.stands)
         ),
     (let size = length-append came more in let given : reader.given ≡ length came = run.given in omega arith),
   ),
@@ -170,10 +170,10 @@ fails before left left' into written reader given' Stands fault.TooMany came mor
       run.appended,
       (
         (
-            let P : List (List ℕ) → Type 0 = λ d. AllAnswered Stands (reply_lines replies) d in
+            let P : List (List ℕ) → Type 0 = λ d. AnswersAll Stands (reply_lines replies) d in
             let same : ended_lines (take (2 ^ 30) (came ++ more)) ≡ done =
             ap ended_lines cut_here ∙ none_after reader.held front reader.given done came (not_ended reader.ended reader.held left came done still run.cut) none in
-            subst P (sym same) (all_answered Stands done replies now run.ran run.stands)
+            subst P (sym same) (answers_all Stands done replies now run.ran run.stands)
             ),
         (let size = length-append came more in omega arith),
       ),
@@ -186,7 +186,7 @@ fails before left left' into written reader given' Stands fault.Memory came more
       Consumes-trans before left left' came more run.consumed consumes,
       run.appended,
       (
-        inl (first_answered Stands done replies now run.ran run.stands (ended_lines (came ++ more)) (ended_lines (reader.held ++ more), cut.1)),
+        inl (answers_first Stands done replies now run.ran run.stands (ended_lines (came ++ more)) (ended_lines (reader.held ++ more), cut.1)),
         (let size = length-append came more in omega arith),
       ),
     )
@@ -314,7 +314,7 @@ lost before left left' into written reader reader' Stands came more done replies
   Consumes-trans before left left' came more run.consumed read.consumes,
   run.appended,
   (
-    so_far left' (came ++ more) (Splits done) (FirstAnswered Stands (reply_lines replies)) (first_answered Stands done replies now run.ran run.stands)
+    so_far left' (came ++ more) (Splits done) (AnswersFirst Stands (reply_lines replies)) (answers_first Stands done replies now run.ran run.stands)
         (after_line reader.ended reader.held left left' came more done run.cut (λ e n. (nothing_at reader more l reader'.held reader'.ended (read.after_end e n).0 read.gives, (read.after_end e n).1))),
     (let size = length-append came more in let grows = read.grows in let given = run.given in omega arith),
   ),
@@ -336,19 +336,19 @@ lost before left left' into written reader reader' Stands came more done replies
 pub stops : (before left into written written' : Option (List ℕ)) (reader : ReaderState) (Stands Stands' : List Entry → Type 0) (came : List ℕ) (done : List (List ℕ)) (text : List ℕ)
     (replies : List Reply) (now : List Entry)
     → IsUnderway before left into written reader Stands came (done ++ text ∷ []) done replies now → IsPartlyReplied script_limit now (asked_of text) Stands' written written'
-    → (part : List ℕ) × Appends into written' (reply_lines replies ++ part) × LinesSoFar left came (FirstAnswered Stands' (reply_lines replies ++ part))
+    → (part : List ℕ) × Appends into written' (reply_lines replies ++ part) × LinesSoFar left came (AnswersFirst Stands' (reply_lines replies ++ part))
 stops before left into written written' reader Stands Stands' came done text replies now run p =
     let part : List ℕ = take p.2 (reply_line p.0) in (
       part,
       Appends-trans into written written' (reply_lines replies) part run.appended p.4,
-      so_far left came (Splits (done ++ text ∷ [])) (FirstAnswered Stands' (reply_lines replies ++ part)) (λ all split. (
+      so_far left came (Splits (done ++ text ∷ [])) (AnswersFirst Stands' (reply_lines replies ++ part)) (λ all split. (
         record {
           done = done;
           others = text ∷ split.0;
           replies = replies;
           after = now;
           part = part;
-          now = followed script_limit now (told (asked_of text).0 (asked_of text).1 p.0);
+          now = history_after script_limit now (entry_of (asked_of text).0 (asked_of text).1 p.0);
           lines_are = split.1 ∙ append_assoc done (text ∷ []) split.0;
           written = refl;
           ran = run.ran;
@@ -361,7 +361,7 @@ stops before left into written written' reader Stands Stands' came done text rep
 
 -- memory or the sink failed
 pub stopped : (f : Fault) (left : Option (List ℕ)) (Stands : List Entry → Type 0) (given out : List ℕ) → (f ≡ stop.Read → ⊥) → (f ≡ stop.TooLong → ⊥)
-    → LinesSoFar left given (FirstAnswered Stands out) → length given ≤ 2 ^ 30 → Outcome (fault_end f) left Stands given out
+    → LinesSoFar left given (AnswersFirst Stands out) → length given ≤ 2 ^ 30 → Outcome (fault_end f) left Stands given out
 stopped stop.Memory left Stands given out read many partly within = (partly, within)
 stopped stop.Write left Stands given out read many partly within = (partly, within)
 stopped stop.Read left Stands given out read many partly within = absurd (read refl)
@@ -372,22 +372,22 @@ stopped stop.TooLong left Stands given out read many partly within = absurd (man
 pub answers : (before left into written written' : Option (List ℕ)) (reader : ReaderState) (Stands Stands' : List Entry → Type 0) (came : List ℕ) (done : List (List ℕ)) (text : List ℕ)
     (replies : List Reply) (now : List Entry)
     → IsUnderway before left into written reader Stands came (done ++ text ∷ []) done replies now → (a : IsReplied script_limit now (asked_of text) Stands' written written')
-    → IsUnderway before left into written' reader Stands' came (done ++ text ∷ []) (done ++ text ∷ []) (replies ++ a.0 ∷ []) (followed script_limit now (told (asked_of text).0 (asked_of text).1 a.0))
+    → IsUnderway before left into written' reader Stands' came (done ++ text ∷ []) (done ++ text ∷ []) (replies ++ a.0 ∷ []) (history_after script_limit now (entry_of (asked_of text).0 (asked_of text).1 a.0))
 answers before left into written written' reader Stands Stands' came done text replies now run a = record {
   consumed = run.consumed;
   given = run.given;
   small = run.small;
   cut = run.cut;
   ran =
-      let P : List (ℕ × Ask) → Type 0 = λ qs. Ran script_limit [] qs (replies ++ a.0 ∷ []) (followed script_limit now (told (asked_of text).0 (asked_of text).1 a.0)) in
-      subst P (sym (map-push done text)) (Ran-push script_limit (map asked_of done) replies [] now (asked_of text) a.0 run.ran a.1.answer);
+      let P : List (ℕ × Ask) → Type 0 = λ qs. AreAnswers script_limit [] qs (replies ++ a.0 ∷ []) (history_after script_limit now (entry_of (asked_of text).0 (asked_of text).1 a.0)) in
+      subst P (sym (map-push done text)) (AreAnswers-push script_limit (map asked_of done) replies [] now (asked_of text) a.0 run.ran a.1.answer);
   stands = a.1.stands;
   appended = subst (Appends into written') (sym (reply_lines-push replies a.0)) (Appends-trans into written written' (reply_lines replies) (reply_line a.0) run.appended a.2);
 }
 
 -- of a reply line nothing was written, which isn't all of it
 pub none_written : (limit : ℕ) (h : List Entry) (asked : ℕ × Ask) (Stands : List Entry → Type 0) (written : Option (List ℕ)) (reply : Reply)
-    → Steps limit h asked.0 asked.1 reply Stands → IsPartlyReplied limit h asked Stands written written
+    → AnswersOneStep limit h asked.0 asked.1 reply Stands → IsPartlyReplied limit h asked Stands written written
 none_written limit h asked Stands written reply step =
     let size : length (reply_line reply) ≡ length (frame_replies.text reply) + 1 = length-append (frame_replies.text reply) (10 ∷ []) in
     (reply, step, 0, (omega arith), Appends-nil written)
@@ -396,17 +396,17 @@ none_written limit h asked Stands written reply step =
 
 -- nothing was read and nothing written
 pub fresh : (left written : Option (List ℕ)) (Stands : List Entry → Type 0) → Stands [] → Moved left left written written (Outcome (fault_end stop.Memory) left Stands)
-fresh left written Stands stands = ([], [], Consumes-nil left, Appends-nil written, (inl (first_answered Stands [] [] [] refl stands [] ([], refl)), omega arith))
+fresh left written Stands stands = ([], [], Consumes-nil left, Appends-nil written, (inl (answers_first Stands [] [] [] refl stands [] ([], refl)), omega arith))
 
 -- all lines were answered
 pub finished : (before left into written : Option (List ℕ)) (reader : ReaderState) (Stands : List Entry → Type 0) (came : List ℕ) (done : List (List ℕ)) (replies : List Reply) (now : List Entry) (count : ℕ)
     → IsUnderway before left into written reader Stands came done done replies now → reader.ended ≡ true → count ≡ length done → reader.given ≤ 2 ^ 30
-    → IsAtEnd left × AllAnswered Stands (reply_lines replies) (lines came) × (count ≡ length (lines came)) × (length came ≤ 2 ^ 30)
+    → IsAtEnd left × AnswersAll Stands (reply_lines replies) (lines came) × (count ≡ length (lines came)) × (length came ≤ 2 ^ 30)
 finished before left into written reader Stands came done replies now count run ended is within =
     let cut = now_ended reader.ended reader.held left came done ended run.cut in
-    let P : List (List ℕ) → Type 0 = λ d. AllAnswered Stands (reply_lines replies) d in (
+    let P : List (List ℕ) → Type 0 = λ d. AnswersAll Stands (reply_lines replies) d in (
       cut.2,
-      subst P (sym cut.0) (all_answered Stands done replies now run.ran run.stands),
+      subst P (sym cut.0) (answers_all Stands done replies now run.ran run.stands),
       is ∙ ap length (sym cut.0),
       (let given = run.given in omega arith),
     )
@@ -417,12 +417,12 @@ pub unfinished : (before left into written : Option (List ℕ)) (reader : Reader
     → Outcome (fault_end (of_sink why)) left Stands came (reply_lines replies)
 unfinished before left into written reader Stands came done replies now why run within =
     sunk_end why (
-      so_far left came (Splits done) (FirstAnswered Stands (reply_lines replies)) (first_answered Stands done replies now run.ran run.stands)
+      so_far left came (Splits done) (AnswersFirst Stands (reply_lines replies)) (answers_first Stands done replies now run.ran run.stands)
           (cut_off reader.ended reader.held left came done run.cut),
       (let given = run.given in omega arith),
     )
   where
-    sunk_end : (why : SinkFault) → LinesSoFar left came (FirstAnswered Stands (reply_lines replies)) × (length came ≤ 2 ^ 30) → Outcome (fault_end (of_sink why)) left Stands came (reply_lines replies)
+    sunk_end : (why : SinkFault) → LinesSoFar left came (AnswersFirst Stands (reply_lines replies)) × (length came ≤ 2 ^ 30) → Outcome (fault_end (of_sink why)) left Stands came (reply_lines replies)
     sunk_end sunk.Failed h = h
     sunk_end sunk.Memory h = h
 

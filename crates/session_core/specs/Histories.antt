@@ -2,8 +2,8 @@
 use Rattle.std.specs.Prelude.{◌≡◌, ℕ, ◌≤◌, List, [], ◌∷◌, ◌++◌, map, length}
 use Rattle.frame_types.specs.Asks.{Ask}
 use Rattle.frame_types.specs.declared.reply.Reply.{Reply}
-use Rattle.hub_spec.specs.Answered.{Answered}
-use Rattle.hub_spec.specs.Histories.{Entry, IsLegal, answered}
+use Rattle.hub_spec.specs.Past.{PastStep}
+use Rattle.hub_spec.specs.Histories.{Entry, IsLegal, past_of}
 use Rattle.hub_spec.specs.Laws.{Folds}
 use Rattle.session_core.specs.Script.{AnswersLines, asked_of, reply_lines, script_limit}
 
@@ -13,7 +13,7 @@ requests_of [] = []
 requests_of (e ∷ h) = requests_of h ++ (e.session, e.request) ∷ []
 
 -- the replies of a history, the first one first
-abbrev pub replies_of : List Answered → List Reply
+abbrev pub replies_of : List PastStep → List Reply
 replies_of [] = []
 replies_of (d ∷ past) = replies_of past ++ d.reply ∷ []
 
@@ -23,7 +23,7 @@ pub record TellsHistory (lines : List (List ℕ)) (out : List ℕ) : Type 0 wher
   pub history : List Entry
   pub legal : IsLegal script_limit history
   pub requests : requests_of history ≡ map asked_of lines
-  pub written : out ≡ reply_lines (replies_of (answered script_limit history))
+  pub written : out ≡ reply_lines (replies_of (past_of script_limit history))
   pub folds : Folds script_limit history
 
 -- where bytes answer lines, they are the reply lines of the lines' history, which is the one that the

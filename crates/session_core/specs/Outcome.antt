@@ -18,20 +18,20 @@ abbrev pub LinesSoFar : Option (List ℕ) → List ℕ → (List (List ℕ) → 
 LinesSoFar left given P = P (ended_lines given) ⊎ (IsAtEnd left × P (lines given))
 
 -- the lines are answered, and the history that the replies tell has the property
-abbrev pub AllAnswered : (List Entry → Type 0) → List ℕ → List (List ℕ) → Type 0
-AllAnswered Stands out ls = (answers : AnswersLines ls out) × Stands answers.after
+abbrev pub AnswersAll : (List Entry → Type 0) → List ℕ → List (List ℕ) → Type 0
+AnswersAll Stands out ls = (answers : AnswersLines ls out) × Stands answers.after
 
 -- the first of the lines are answered, and the history with the step whose reply line is cut short has
 -- the property
-abbrev pub FirstAnswered : (List Entry → Type 0) → List ℕ → List (List ℕ) → Type 0
-FirstAnswered Stands out ls = (answers : AnswersFirstLines ls out) × Stands answers.now
+abbrev pub AnswersFirst : (List Entry → Type 0) → List ℕ → List (List ℕ) → Type 0
+AnswersFirst Stands out ls = (answers : AnswersFirstLines ls out) × Stands answers.now
 
 -- at the end all lines are answered; after a fault of the source, and past the limit, those that
 -- ended within the bytes; after a fault of the sink, and without memory, the first of the lines so far.
 -- `Stands` says for which histories the caller stands at the end
 abbrev pub Outcome : ScriptEnd → Option (List ℕ) → (List Entry → Type 0) → List ℕ → List ℕ → Type 0
-Outcome (Done count) left Stands given out = IsAtEnd left × AllAnswered Stands out (lines given) × (count ≡ length (lines given)) × (length given ≤ 2 ^ 30)
-Outcome ReadFault left Stands given out = AllAnswered Stands out (ended_lines given) × (length given ≤ 2 ^ 30)
-Outcome TooLong left Stands given out = AllAnswered Stands out (ended_lines (take (2 ^ 30) given)) × (length given ≡ 2 ^ 30 + 1)
-Outcome WriteFault left Stands given out = LinesSoFar left given (FirstAnswered Stands out) × (length given ≤ 2 ^ 30)
-Outcome Memory left Stands given out = LinesSoFar left given (FirstAnswered Stands out) × (length given ≤ 2 ^ 30)
+Outcome (Done count) left Stands given out = IsAtEnd left × AnswersAll Stands out (lines given) × (count ≡ length (lines given)) × (length given ≤ 2 ^ 30)
+Outcome ReadFault left Stands given out = AnswersAll Stands out (ended_lines given) × (length given ≤ 2 ^ 30)
+Outcome TooLong left Stands given out = AnswersAll Stands out (ended_lines (take (2 ^ 30) given)) × (length given ≡ 2 ^ 30 + 1)
+Outcome WriteFault left Stands given out = LinesSoFar left given (AnswersFirst Stands out) × (length given ≤ 2 ^ 30)
+Outcome Memory left Stands given out = LinesSoFar left given (AnswersFirst Stands out) × (length given ≤ 2 ^ 30)

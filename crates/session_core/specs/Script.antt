@@ -8,9 +8,9 @@ use Rattle.frame_types.specs.declared.request.FrameCause.TheVariants as frame
 use Rattle.frame_types.specs.declared.reply.Reply.{Reply}
 use Rattle.frame_json.specs.Requests.{request_of, unread_by}
 use Rattle.frame_json.specs.Replies.{text}
-use Rattle.hub_spec.specs.Histories.{Entry, followed, told}
+use Rattle.hub_spec.specs.Histories.{Entry, history_after, entry_of}
 use Rattle.hub_spec.specs.Laws.{Folds}
-use Rattle.hub_spec.specs.Runs.{IsAnswer, Ran}
+use Rattle.hub_spec.specs.Runs.{IsAnswer, AreAnswers}
 
 -- the most steps of a script's history, which a script is too short to reach
 abbrev pub script_limit : ℕ
@@ -41,7 +41,7 @@ pub record AnswersLines (lines : List (List ℕ)) (out : List ℕ) : Type 0 wher
   -- the history that the replies tell
   pub after : List Entry
   pub written : out ≡ reply_lines replies
-  pub ran : Ran script_limit [] (map asked_of lines) replies after
+  pub ran : AreAnswers script_limit [] (map asked_of lines) replies after
   pub folds : Folds script_limit after
 
 -- the request was asked after the history `h`, these bytes are a front of its reply line and not all
@@ -49,7 +49,7 @@ pub record AnswersLines (lines : List (List ℕ)) (out : List ℕ) : Type 0 wher
 pub record IsCutShort (limit : ℕ) (h : List Entry) (asked : ℕ × Ask) (part : List ℕ) (now : List Entry) : Type 0 where
   pub reply : Reply
   pub answer : IsAnswer limit h asked.0 asked.1 reply
-  pub now_is : now ≡ followed limit h (told asked.0 asked.1 reply)
+  pub now_is : now ≡ history_after limit h (entry_of asked.0 asked.1 reply)
   pub taken : ℕ
   pub short : taken < length (reply_line reply)
   pub front : part ≡ take taken (reply_line reply)
@@ -71,6 +71,6 @@ pub record AnswersFirstLines (lines : List (List ℕ)) (out : List ℕ) : Type 0
   pub now : List Entry
   pub lines_are : lines ≡ done ++ others
   pub written : out ≡ reply_lines replies ++ part
-  pub ran : Ran script_limit [] (map asked_of done) replies after
+  pub ran : AreAnswers script_limit [] (map asked_of done) replies after
   pub folds : Folds script_limit after
   pub next : NextIs after others part now

@@ -6,7 +6,7 @@ use Rattle.io_ends.specs.Reading.{ReaderState}
 use Rattle.frame_types.specs.Asks.{Ask}
 use Rattle.frame_types.specs.declared.reply.Reply.{Reply}
 use Rattle.hub_spec.specs.Histories.{Entry}
-use Rattle.hub_spec.specs.Runs.{Ran, Steps}
+use Rattle.hub_spec.specs.Runs.{AnswersOneStep, AreAnswers}
 use Rattle.session_core.specs.Script.{asked_of, reply_line, reply_lines, script_limit}
 
 -- the lines of what came so far, and of whatever comes: those that were cut off, and then those of
@@ -16,14 +16,14 @@ Cut ended held left came done =
     MatchBool ended ((lines came ≡ done) × (held ≡ []) × IsAtEnd left)
     ((more : List ℕ) → (lines (came ++ more) ≡ done ++ lines (held ++ more)) × (ended_lines (came ++ more) ≡ done ++ ended_lines (held ++ more)))
 
--- these bytes came and were cut into these lines, and the first `answered` of the lines were answered so
+-- these bytes came and were cut into these lines, and the first `asked` of the lines were answered so
 pub record IsUnderway (before left into written : Option (List ℕ)) (reader : ReaderState) (Stands : List Entry → Type 0)
-    (came : List ℕ) (done answered : List (List ℕ)) (replies : List Reply) (now : List Entry) : Type 0 where
+    (came : List ℕ) (done asked : List (List ℕ)) (replies : List Reply) (now : List Entry) : Type 0 where
   pub consumed : Consumes before left came
   pub given : reader.given ≡ length came
   pub small : length done + length reader.held ≤ reader.given
   pub cut : Cut reader.ended reader.held left came done
-  pub ran : Ran script_limit [] (map asked_of answered) replies now
+  pub ran : AreAnswers script_limit [] (map asked_of asked) replies now
   pub stands : Stands now
   pub appended : Appends into written (reply_lines replies)
 
@@ -39,10 +39,10 @@ counted more count = if more then count + 1 else count
 -- a request was answered by a step, and the sink took the reply line
 abbrev pub IsReplied : ℕ → List Entry → ℕ × Ask → (List Entry → Type 0) → Option (List ℕ) → Option (List ℕ) → Type 0
 IsReplied limit h asked Stands before after =
-    (reply : Reply) × Steps limit h asked.0 asked.1 reply Stands × Appends before after (reply_line reply)
+    (reply : Reply) × AnswersOneStep limit h asked.0 asked.1 reply Stands × Appends before after (reply_line reply)
 
 -- a request was answered by a step, and the sink took a front of the reply line and not all of it
 abbrev pub IsPartlyReplied : ℕ → List Entry → ℕ × Ask → (List Entry → Type 0) → Option (List ℕ) → Option (List ℕ) → Type 0
 IsPartlyReplied limit h asked Stands before after =
-    (reply : Reply) × Steps limit h asked.0 asked.1 reply Stands
+    (reply : Reply) × AnswersOneStep limit h asked.0 asked.1 reply Stands
     × (taken : ℕ) × (taken < length (reply_line reply)) × Appends before after (take taken (reply_line reply))

@@ -1,6 +1,7 @@
 ghost use Rattle.std.specs.Prelude.{◌≡◌, ◌+◌, ◌^◌, ◌<◌, ◌≤◌, ℕ, true, false, [], List, Option, length, string_bytes, option_map, OnOk, OnErr, IsErrOf, IfOk, IfErr, IfSome};
 ghost use Rattle.io_ends.specs.Causes.{Counts};
 ghost use Rattle.frame_types.specs.Asks.{asked_view};
+ghost use Rattle.frame_types.specs.Limits.{sessions};
 ghost use Rattle.hub_spec.specs.Callers.{SpeaksForAll};
 ghost use Rattle.hub_spec.specs.Histories.{Entry};
 ghost use Rattle.session_core.specs.Faults.{end_of, fault_end, has_read_fault, has_write_fault, is_read_fault, is_write_fault};
@@ -106,13 +107,13 @@ pub fn run_script<S: Source, K: Sink, C: Caller>(
     ensures read { Counts (is_read_fault result) (S.faults source.old) (S.faults source.new) }
     ensures write { Counts (is_write_fault result) (K.faults sink.old) (K.faults sink.new) }
 {
-    end_told(answer_lines(alloc, caller, source, sink))
+    end_of_script(answer_lines(alloc, caller, source, sink))
 }
 
-fn end_told(answered: Result<u64, Fault>) -> ScriptEnd
-    ensures { result ≡ end_of answered }
+fn end_of_script(lines: Result<u64, Fault>) -> ScriptEnd
+    ensures { result ≡ end_of lines }
 {
-    match answered {
+    match lines {
         Ok(lines) => ScriptEnd::Done { lines },
         Err(Fault::Memory) => ScriptEnd::Memory,
         Err(Fault::TooLong) => ScriptEnd::TooLong,
@@ -199,7 +200,7 @@ fn answer_next<S: Source, K: Sink, C: Caller>(
 /// What a line asks, and nothing at the end.
 fn asked_by(alloc: Global, line: Line) -> Result<Option<Asked>, Memory>
     ensures asked { IfOk result (λ found. option_map asked_view found ≡ asked_in line) }
-    ensures session { IfOk result (λ found. IfSome found (λ asked. asked.session ≤ 65)) }
+    ensures session { IfOk result (λ found. IfSome found (λ asked. asked.session < sessions)) }
 {
     match line {
         Line::Words(bytes) => {
@@ -221,7 +222,7 @@ fn answer<K: Sink, C: Caller>(
     asked: Asked,
     sink: &mut K,
 ) -> Result<(), Fault>
-    requires session { asked.session ≤ 65 }
+    requires session { asked.session < sessions }
     requires alone { SpeaksForAll (C.speaks caller.old) }
     ensures replied { OnOk result ((h : List Entry) → C.stands caller.old h → IsReplied (C.limit caller.old) h
         (asked_view asked) (C.stands caller.new) (K.written sink.old) (K.written sink.new)) }

@@ -1,6 +1,6 @@
 use Rattle.std.proofs.Common.{◌+◌, cond, refl, ap}
 use Rattle.std.proofs.lemmas.Bool.{eq-eqb}
-use Rattle.hub_spec.specs.Answered.{entries_of}
+use Rattle.hub_spec.specs.Past.{entries_of}
 use Rattle.hub_spec.specs.Bases.{placed_in, shown_in}
 use Rattle.hub_spec.proofs.Folding.{same_folded, touches_nothing, touches_no_header}
 use Rattle.hub_spec.proofs.refusals_change_nothing.Goals as goal

@@ -5,7 +5,7 @@ use Rattle.hub_core.specs.Callers.{hub_of}
 use Rattle.hub_core.specs.Standing.{StandsFor}
 use Rattle.session_core.specs.Outcome.{Outcome}
 use Rattle.pv_program.specs.Statuses.{StatusSays}
-use Rattle.pv_program.proofs.Told.{nothing_moved, wrong_words, without_memory, moved, status_says, shows_read, shows_write}
+use Rattle.pv_program.proofs.StatusLemmas.{nothing_moved, wrong_words, without_memory, moved, status_says, shows_read, shows_write}
 use Rattle.pv_program.proofs.top.pv_main.Goals as goal
 
 pub returns-then-not-is_script-clause-ran : goal.returns-then-not-is_script-clause-ran

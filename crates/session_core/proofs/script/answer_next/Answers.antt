@@ -103,12 +103,12 @@ returns-clause-ok g c =
     let P : ℕ → Type 0 = λ n. IsReplied n runs.3 (asked_view c.in-Some.asked) (g.C.Caller.stands c.answer.new.caller) (g.K.Sink.written c.args.sink.now) (g.K.Sink.written c.answer.new.sink) in
     let here = subst P c.requires.limit done in
     let Q : ℕ × Ask → Type 0 = λ q. IsReplied script_limit runs.3 q (g.C.Caller.stands c.answer.new.caller) (g.K.Sink.written c.args.sink.now) (g.K.Sink.written c.answer.new.sink) in
-    let answered = subst Q (sym line.1) here in (
+    let replied = subst Q (sym line.1) here in (
       runs.0 ++ c.in_ok-line.ensures.line.0,
       runs.1 ++ line.0 ∷ [],
-      runs.2 ++ answered.0 ∷ [],
+      runs.2 ++ replied.0 ∷ [],
       _,
       answers before (g.S.Source.left c.next.new.source) into (g.K.Sink.written c.args.sink.now) (g.K.Sink.written c.answer.new.sink) c.next.new.self (g.C.Caller.stands c.args.caller.now)
-          (g.C.Caller.stands c.answer.new.caller) (runs.0 ++ c.in_ok-line.ensures.line.0) runs.1 line.0 runs.2 runs.3 line.2 answered,
+          (g.C.Caller.stands c.answer.new.caller) (runs.0 ++ c.in_ok-line.ensures.line.0) runs.1 line.0 runs.2 runs.3 line.2 replied,
       ap (λ n. n + 1) runs.5 ∙ sym (length-append runs.1 (line.0 ∷ [])),
     )

@@ -1,5 +1,6 @@
 use Rattle.std.proofs.Common.{refl}
 use Rattle.std.proofs.lemmas.List.{get_or-replicate}
+use Rattle.frame_types.specs.Limits.{sessions}
 use Rattle.hub_core.specs.Standing.{StandsFor, limit_of}
 use Rattle.hub_core.proofs.hub.Hub.make.Goals as goal
 
@@ -9,8 +10,8 @@ returns-clause-stands c = record {
   small = c.requires.small;
   legal = tt;
   entries = refl;
-  sessions = refl;
-  counts = λ session lt. get_or-replicate 66 session 0 0 lt;
+  size = refl;
+  counts = λ session lt. get_or-replicate sessions session 0 0 lt;
   machine = c.new.ensures;
 }
 

@@ -1,8 +1,0 @@
-use Rattle.std.proofs.Common.{rules, not}
-use Rattle.std.proofs.lemmas.Fn.{filter_same}
-use Rattle.hub_core.specs.KeptViews.{is_kept}
-use Rattle.hub_core.specs.declared.views.View.{View}
-use Rattle.hub_core.proofs.views.drop_view.Goals as goal
-
-pub returns : goal.returns
-returns c = filter_same _ (λ (v : View). not (is_kept c.args.session c.args.number v)) _ (λ x b f' k. search rules) _ _ c.retain.ensures.filtered

@@ -1,0 +1,89 @@
+-- Each held view stands under its own session and number.
+use Rattle.std.proofs.Common.{◌≡◌, ℕ, ◌<◌, ◌≤◌, eqb, Bool, true, false, ◌&&◌, cond, List, [], ◌∷◌, ◌++◌, map, filter, All, Some, inl, inr, refl, sym, ap, ◌∙◌, arith, if◌then◌else◌}
+use Rattle.std.proofs.lemmas.Bool.{cases_eq, eq-eqb, ne_eqb}
+use Rattle.std.proofs.lemmas.List.Elements.{All-nil, All-cons, All-head, All-tail, All-push, All-filter, All-map, All-weaker}
+use Rattle.std.specs.List.{list_any}
+use Rattle.hub_spec.specs.HeldViews.{HeldView, is_view, lost_at}
+use Rattle.hub_views.specs.Keeping.{AreNumbered}
+
+pub own_is_view : (v : HeldView) → is_view v.session v.number v ≡ true
+own_is_view v = rw (eq-eqb v.session v.session refl, eq-eqb v.number v.number refl) refl
+
+not_view : (session number : ℕ) (v : HeldView) → (v.session ≡ session → v.number ≡ number → ⊥) → is_view session number v ≡ false
+not_view session number v apart =
+    elim (cases_eq v.session session) as (λ _. is_view session number v ≡ false) [
+      | inl same ↦ rw (eq-eqb v.session session same) (ne_eqb v.number number (apart same))
+      | inr other ↦ rw (ne_eqb v.session session other) refl
+    ]
+
+-- a view was opened before another
+abbrev pub IsBefore : HeldView → HeldView → Type 0
+IsBefore v w = v.session ≡ w.session → v.number < w.number
+
+pub earlier_is_other : (v w : HeldView) → IsBefore v w → is_view w.session w.number v ≡ false
+earlier_is_other v w before = not_view w.session w.number v (λ s n. absurd (let less : v.number < w.number = before s in omega (arith, less, n)))
+
+pub later_is_other : (v w : HeldView) → IsBefore v w → is_view v.session v.number w ≡ false
+later_is_other v w before = not_view v.session v.number w (λ s n. absurd (let less : v.number < w.number = before (sym s) in omega (arith, less, n)))
+
+-- a later view is not an earlier one
+pub are_apart : (v w : HeldView) → IsBefore v w → (eqb w.number v.number && eqb w.session v.session) ≡ false
+are_apart v w before =
+    elim (cases_eq w.number v.number) as (λ _. (eqb w.number v.number && eqb w.session v.session) ≡ false) [
+      | inl same ↦ rw (eq-eqb w.number v.number same)
+          (ne_eqb w.session v.session (λ s. absurd (let less : v.number < w.number = before (sym s) in omega (arith, less, same))))
+      | inr other ↦ rw (ne_eqb w.number v.number other) refl
+    ]
+
+-- each number is one that the session has given
+pub numbers_given : (opened : ℕ → ℕ) (vs : List HeldView) → AreNumbered opened vs → All (λ v. v.number < opened v.session) vs
+numbers_given opened [] h = All-nil (λ v. v.number < opened v.session)
+numbers_given opened (v ∷ vs) h = All-cons (λ w. w.number < opened w.session) v vs h.0 (numbers_given opened vs h.2)
+
+-- ---- what keeps lists numbered
+
+-- more views were opened
+pub numbered_still : (few more : ℕ → ℕ) (vs : List HeldView) → ((s : ℕ) → few s ≤ more s) → AreNumbered few vs → AreNumbered more vs
+numbered_still few more [] le h = tt
+numbered_still few more (v ∷ vs) le h = (omega (arith, le v.session, h.0), h.1, numbered_still few more vs le h.2)
+
+-- some views went
+pub numbered_filter : (opened : ℕ → ℕ) (keeps : HeldView → Bool) (vs : List HeldView) → AreNumbered opened vs → AreNumbered opened (filter keeps vs)
+numbered_filter opened keeps [] h = tt
+numbered_filter opened keeps (v ∷ vs) h = by (keeps v) (numbered_filter opened keeps vs h.2)
+  where
+    by : (b : Bool) → AreNumbered opened (filter keeps vs) → AreNumbered opened (cond b (v ∷ filter keeps vs) (filter keeps vs))
+    by true later = (h.0, All-filter keeps (IsBefore v) vs h.1, later)
+    by false later = later
+
+-- one came with a greater number
+pub numbered_push : (opened : ℕ → ℕ) (vs : List HeldView) (w : HeldView) → AreNumbered opened vs → w.number < opened w.session
+    → All (λ v. IsBefore v w) vs → AreNumbered opened (vs ++ w ∷ [])
+numbered_push opened [] w h lt before = (lt, All-nil (IsBefore w), tt)
+numbered_push opened (v ∷ vs) w h lt before = (
+  h.0,
+  All-push (IsBefore v) vs w h.1 (All-head (λ u. IsBefore u w) v vs before),
+  numbered_push opened vs w h.2 lt (All-tail (λ u. IsBefore u w) v vs before),
+)
+
+-- some were lost
+pub record IsSameName (v w : HeldView) : Type 0 where
+  pub session : w.session ≡ v.session
+  pub number : w.number ≡ v.number
+
+pub lost_name : (at : ℕ) (lost : List (ℕ × ℕ)) (v : HeldView) → IsSameName v (lost_at at lost v)
+lost_name at lost v = by (list_any (λ (w : ℕ × ℕ). is_view w.0 w.1 v) lost)
+  where
+    by : (b : Bool) → IsSameName v (if b then record v { lost = Some at } else v)
+    by true = record { session = refl; number = refl }
+    by false = record { session = refl; number = refl }
+
+pub numbered_lost : (opened : ℕ → ℕ) (at : ℕ) (lost : List (ℕ × ℕ)) (vs : List HeldView) → AreNumbered opened vs → AreNumbered opened (map (lost_at at lost) vs)
+numbered_lost opened at lost [] h = tt
+numbered_lost opened at lost (v ∷ vs) h =
+    let name = lost_name at lost v in (
+      rw (name.session, name.number) h.0,
+      All-map (IsBefore (lost_at at lost v)) (lost_at at lost) vs (All-weaker (IsBefore v) (λ u. IsBefore (lost_at at lost v) (lost_at at lost u))
+          (λ u before. let its = lost_name at lost u in rw (name.session, name.number, its.session, its.number) before) vs h.1),
+      numbered_lost opened at lost vs h.2,
+    )

@@ -1,0 +1,147 @@
+-- What is kept of a view once a batch more was applied, and the loop over all views.
+use Rattle.std.proofs.Common.{◌≡◌, ℕ, ◌+◌, ◌<◌, Bool, true, false, ◌||◌, cond, List, [], ◌∷◌, ◌++◌, find, get_or, take, drop, set, length, Option, Some, None, if◌then◌else◌, refl, sym, ap, ◌∙◌, arith}
+use Rattle.std.specs.Prelude.{is_some}
+use Rattle.std.specs.List.Sorted.{IsStrictlySortedBy}
+use Rattle.std.proofs.lemmas.List.{append-nil, append_assoc, drop-drop, drop-set-lt, get_or-drop, length-set, take_more, take_more_set}
+use Rattle.std.proofs.lemmas.List.Elements.{AllZip-push}
+use Rattle.view_types.specs.Keys.{key_order, same_key}
+use Rattle.view_types.specs.declared.key.ViewKey.{ViewKey}
+use Rattle.view_types.specs.declared.shown.Shown.{Shown}
+use Rattle.view_types.specs.declared.shown.ShownRow.{ShownRow}
+use Rattle.delta_core.specs.Deltas.{marked}
+use Rattle.delta_core.specs.DirtySets.{DirtyData, dirty_of, joined}
+use Rattle.delta_core.specs.KeySets.{with_keys}
+use Rattle.delta_core.specs.Rows.{at_key, has_row}
+use Rattle.delta_core.specs.declared.delta.Mark.{Mark}
+use Rattle.delta_core.proofs.KeySetLemmas.{beside-with_keys, no_keys_ascend, with_keys-ascends}
+use Rattle.plain_view.specs.Touching.{head_touched, key_of, place_of, placed, touched_keys}
+use Rattle.hub_spec.specs.Past.{PastStep}
+use Rattle.hub_spec.specs.Bases.{base_or_none, dirty, head_dirty, is_base, placed_in, shown_in}
+use Rattle.hub_spec.specs.HeldViews.{HeldView}
+use Rattle.hub_spec.proofs.Folding.{agree_since}
+use Rattle.hub_views.specs.Keeping.{live_at}
+use Rattle.hub_views.specs.Refreshing.{AreRefreshed, IsBrought, IsRefreshed, is_loss, losses}
+use Rattle.hub_views.specs.declared.live.LiveView.{LiveView}
+use Rattle.hub_views.specs.declared.view.View.{View}
+use Rattle.hub_views.proofs.KeptViews.{live_next, next_is}
+
+-- ---- what is joined to the dirty keys
+
+has_placed : (k : ViewKey) (rows : List ShownRow) → is_some (at_key key_of k (placed rows)) ≡ has_row k rows
+has_placed k [] = refl
+has_placed k (r ∷ rows) = by (same_key r.key k) (has_placed k rows)
+  where
+    by : (b : Bool) → is_some (at_key key_of k (placed rows)) ≡ has_row k rows
+        → is_some (cond b (Some (record { place = place_of r.key; row = r })) (at_key key_of k (placed rows))) ≡ is_some (cond b (Some r) (find (λ q. same_key q.key k) rows))
+    by true later = refl
+    by false later = later
+
+dirty_ascends : (past : List PastStep) (s number : ℕ) → IsStrictlySortedBy key_order (dirty past s number)
+dirty_ascends [] s number = no_keys_ascend
+dirty_ascends (d ∷ past) s number = by (is_base s number d) (dirty_ascends past s number)
+  where
+    touched : List ViewKey
+    touched = touched_keys (placed_in past s number) (placed_in (d ∷ past) s number)
+
+    by : (b : Bool) → IsStrictlySortedBy key_order (dirty past s number) → IsStrictlySortedBy key_order (cond b [] (with_keys (dirty past s number) touched))
+    by true up = no_keys_ascend
+    by false up = with_keys-ascends (dirty past s number) touched up
+
+-- a key that is touched first was shown at the base exactly where it was shown before the step
+joined_since : (past : List PastStep) (s number : ℕ) (touched : List ViewKey)
+    → joined (marked (base_or_none past s number).shown.rows (dirty past s number)) (marked (shown_in past s number).rows touched)
+    ≡ marked (base_or_none past s number).shown.rows (with_keys (dirty past s number) touched)
+joined_since past s number touched =
+    let at_base : List ShownRow = (base_or_none past s number).shown.rows in
+    let before : List ShownRow = (shown_in past s number).rows in
+    sym (beside-with_keys (λ k. has_row k at_base) (λ k. has_row k before) (dirty past s number) touched (dirty_ascends past s number)
+    (λ k further off. sym (has_placed k at_base) ∙ ap is_some (agree_since past s number k off) ∙ has_placed k before))
+
+-- ---- one view
+
+same_live : (live other : LiveView) → live.bound ≡ other.bound → live.edit ≡ other.edit → live.shown ≡ other.shown → live.base ≡ other.base → live.dirty ≡ other.dirty
+    → live ≡ other
+same_live live other a b c d e = by live.bound other.bound live.edit other.edit live.shown other.shown live.base other.base live.dirty other.dirty a b c d e
+  where
+    by : (b c e f : ℕ) (s t : Shown) (m n : Mark) (d g : DirtyData) → b ≡ c → e ≡ f → s ≡ t → m ≡ n → d ≡ g
+        → let x : LiveView = record { bound = b; edit = e; shown = s; base = m; dirty = d } in x ≡ record { bound = c; edit = f; shown = t; base = n; dirty = g }
+    by b c e f s t m n d g p q r u v = cc
+
+-- a live view that is brought to what is shown after a step is kept as it is then
+pub brought_is : (past : List PastStep) (d : PastStep) (v : HeldView) (now : Shown) (live : LiveView) → is_base v.session v.number d ≡ false
+    → shown_in (d ∷ past) v.session v.number ≡ now → IsBrought now (live_at past v.session v.number v.bound v.edit) live
+    → live ≡ live_at (d ∷ past) v.session v.number v.bound v.edit
+brought_is past d v now live other shows brought =
+    let s = v.session in
+    let n = v.number in
+    let at_base : List ShownRow = (base_or_none past s n).shown.rows in
+    let was : Shown = shown_in past s n in
+    let dirt : live.dirty ≡ (live_next past s n v.bound v.edit now).dirty =
+    brought.dirty (marked at_base (dirty past s n)) (head_dirty past s n) refl
+    ∙ ap (λ keys. dirty_of v.bound keys (head_dirty past s n || head_touched was now)) (joined_since past s n (touched_keys (placed was.rows) (placed now.rows))) in
+    same_live live (live_next past s n v.bound v.edit now) brought.bound brought.edit brought.shown brought.base dirt
+    ∙ ap (live_next past s n v.bound v.edit) (sym shows) ∙ sym (next_is past d s n v.bound v.edit other)
+
+-- ---- the loop over the views
+
+-- the session and number of a view, where it is lost
+abbrev pub loss : View → View → List (ℕ × ℕ)
+loss v w = if is_loss v.state w.state then (v.session, v.number) ∷ [] else []
+
+losses_cons : (v w : View) (vs ws : List View) → losses (v ∷ vs) (w ∷ ws) ≡ loss v w ++ losses vs ws
+losses_cons v w vs ws = by (is_loss v.state w.state)
+  where
+    by : (b : Bool) → cond b ((v.session, v.number) ∷ losses vs ws) (losses vs ws) ≡ cond b ((v.session, v.number) ∷ []) [] ++ losses vs ws
+    by true = refl
+    by false = refl
+
+losses_more : (now : Shown) (version : ℕ) (vs ws : List View) (v w : View) → AreRefreshed now version vs ws
+    → losses (vs ++ v ∷ []) (ws ++ w ∷ []) ≡ losses vs ws ++ loss v w
+losses_more now version [] [] v w h = losses_cons v w [] [] ∙ append-nil (loss v w)
+losses_more now version [] (y ∷ ws) v w h = absurd h
+losses_more now version (x ∷ vs) [] v w h = absurd h
+losses_more now version (x ∷ vs) (y ∷ ws) v w h =
+    losses_cons x y (vs ++ v ∷ []) (ws ++ w ∷ []) ∙ ap (λ l. loss x y ++ l) (losses_more now version vs ws v w h.1)
+    ∙ sym (append_assoc (loss x y) (losses vs ws) (loss v w))
+    ∙ sym (ap (λ l. l ++ loss v w) (losses_cons x y vs ws))
+
+-- what holds once so many views were brought up to date, of those before and after, and of the names that were noted
+pub record IsSoFar (now : Shown) (version : ℕ) (old items : List View) (before names : List (ℕ × ℕ)) (i : ℕ) : Type 0 where
+  pub refreshed : AreRefreshed now version (take i old) (take i items)
+  pub lost : names ≡ before ++ losses (take i old) (take i items)
+  pub rest : drop i items ≡ drop i old
+  pub size : length items ≡ length old
+
+still_there : (old items : List View) (i : ℕ) (d : View) → drop i items ≡ drop i old → get_or old i d ≡ get_or items i d
+still_there old items i d rest =
+    let zero_more : i + 0 ≡ i = omega arith in
+    let at_old : get_or (drop i old) 0 d ≡ get_or old i d = get_or-drop i old 0 d ∙ ap (λ k. get_or old k d) zero_more in
+    let at_items : get_or (drop i items) 0 d ≡ get_or items i d = get_or-drop i items 0 d ∙ ap (λ k. get_or items k d) zero_more in
+    sym at_old ∙ ap (λ xs. get_or xs 0 d) (sym rest) ∙ at_items
+
+pub one_more : (now : Shown) (version : ℕ) (old items : List View) (noted lost more : List (ℕ × ℕ)) (i : ℕ) (d w : View) → i < length items
+    → IsRefreshed now version (get_or items i d) w → more ≡ lost ++ loss (get_or items i d) w → IsSoFar now version old items noted lost i
+    → IsSoFar now version old (set items i w) noted more (i + 1)
+one_more now version old items noted lost more i d w lt here is h =
+    let v : View = get_or items i d in
+    let within : i < length old = omega (arith, lt, h.size) in
+    let before : take (i + 1) old ≡ take i old ++ v ∷ [] = take_more old i d within ∙ ap (λ x. take i old ++ x ∷ []) (still_there old items i d h.rest) in
+    let after : take (i + 1) (set items i w) ≡ take i items ++ w ∷ [] = take_more_set items i w lt in
+    let less : i < i + 1 = omega arith in
+    record {
+      refreshed = rw (before, after) (AllZip-push (IsRefreshed now version) (take i old) (take i items) v w h.refreshed here);
+      lost = rw (before, after) (is ∙ ap (λ l. l ++ loss v w) h.lost ∙ append_assoc noted (losses (take i old) (take i items)) (loss v w)
+          ∙ sym (ap (λ l. noted ++ l) (losses_more now version (take i old) (take i items) v w h.refreshed)));
+      rest = drop-set-lt (i + 1) items i w less ∙ sym (drop-drop 1 i items) ∙ ap (drop 1) h.rest ∙ drop-drop 1 i old;
+      size = length-set items i w ∙ h.size;
+    }
+
+-- a view that is lost is noted by what it is after as by what it was
+pub noted_loss : (lost : List (ℕ × ℕ)) (now : Shown) (version : ℕ) (v w : View) → is_loss v.state w.state ≡ true → IsRefreshed now version v w
+    → lost ++ (w.session, w.number) ∷ [] ≡ lost ++ loss v w
+noted_loss lost now version v w loses h =
+    ap (λ s. lost ++ (s, w.number) ∷ []) h.session ∙ ap (λ n. lost ++ (v.session, n) ∷ []) h.number
+    ∙ sym (ap (λ b. lost ++ cond b ((v.session, v.number) ∷ []) []) loses)
+
+pub no_loss : (lost : List (ℕ × ℕ)) (v w : View) → is_loss v.state w.state ≡ false → lost ≡ lost ++ loss v w
+no_loss lost v w stays = sym (append-nil lost) ∙ sym (ap (λ b. lost ++ cond b ((v.session, v.number) ∷ []) []) stays)

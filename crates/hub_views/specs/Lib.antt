@@ -1,0 +1,4 @@
+pub mod Keeping
+pub mod Live
+pub mod Refreshing
+pub mod Tables

@@ -1,0 +1,54 @@
+ghost use Rattle.std.specs.Prelude.{◌≡◌};
+ghost use Rattle.frame_types.specs.Refusals as refusals;
+ghost use Rattle.frame_types.specs.declared.reply.Cause.TheVariants as cause;
+
+use crate::views::MAX_VIEWS;
+use cell_core::Numbers;
+use frame_types::{Cause, Refusal};
+
+fn refused(code: u8, cause: Cause, at: Numbers) -> Refusal
+    ensures { result ≡ record { code = code; cause = cause; at = at } }
+{
+    Refusal { code, cause, at }
+}
+
+/// The plan isn't built yet.
+pub fn unbuilt() -> Refusal
+    ensures { result ≡ refusals.bad_frame cause.Unbuilt }
+{
+    refused(1, Cause::Unbuilt, Numbers::Zero)
+}
+
+/// 16 views are held.
+pub fn too_many_views() -> Refusal
+    ensures { result ≡ refusals.too_many_views }
+{
+    refused(14, Cause::TooManyViews, Numbers::One(MAX_VIEWS as u64))
+}
+
+/// The session holds no view of that number.
+pub fn no_view() -> Refusal
+    ensures { result ≡ refusals.no_view }
+{
+    refused(15, Cause::NoView, Numbers::Zero)
+}
+
+/// An update of the view found no memory, at that version.
+pub fn view_lost(version: u64) -> Refusal
+    ensures { result ≡ refusals.view_lost version }
+{
+    refused(16, Cause::ViewLost, Numbers::One(version))
+}
+
+/// The window ends before it begins.
+pub fn bad_window(from: u64, to: u64) -> Refusal
+    ensures { result ≡ refusals.bad_window from to }
+{
+    refused(20, Cause::Window, Numbers::Two(from, to))
+}
+
+pub fn memory() -> Refusal
+    ensures { result ≡ refusals.memory }
+{
+    refused(22, Cause::Memory, Numbers::Zero)
+}

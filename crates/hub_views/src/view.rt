@@ -1,0 +1,71 @@
+ghost use Rattle.std.specs.Prelude.{◌≡◌};
+ghost use Rattle.plain_view.specs.Flat.{flat_view};
+ghost use Rattle.hub_views.specs.Live.{rebased, rebased_at};
+ghost use Rattle.hub_views.specs.Refreshing.{IsRefreshed, is_loss};
+
+use crate::live::LiveView;
+use cell_core::Steps;
+use delta_core::Mark;
+use std::alloc::Global;
+use std::sync::ledger::Ledger;
+use table_core::Table;
+
+/// A view that a session holds.
+#[derive(Drop)]
+pub struct View {
+    pub session: u32,
+    /// Its number among the views that the session opened, counted from 0.
+    pub number: u64,
+    pub state: ViewState,
+}
+
+/// Whether a view can still be asked for what it shows.
+#[derive(Drop)]
+pub enum ViewState {
+    Live(LiveView),
+    /// An update of it found no memory, at that version.
+    Lost(u64),
+}
+
+impl View {
+    /// Makes a mark its base, if it is the one that the session holds under a number and can still be asked.
+    pub fn rebase_at(&mut self, session: u32, number: u64, mark: Mark)
+        ensures { self.new ≡ rebased_at session number mark self.old }
+    {
+        if number == self.number && session == self.session {
+            self.state.rebase(mark);
+        }
+    }
+
+    /// Brings the view to what the table shows now. Where that finds no memory the view is lost at this version,
+    /// and the answer is true; a view that was lost before stays so.
+    pub fn refresh<L: Ledger>(
+        &mut self,
+        alloc: Global,
+        table: &Table,
+        version: u64,
+        steps: &mut Steps<L>,
+    ) -> bool
+        ensures refreshed { IsRefreshed (flat_view table.now.schema table.now.store.pairs) version self.old self.new }
+        ensures lost { result ≡ is_loss self.old.state self.new.state }
+    {
+        let ViewState::Live(live) = &mut self.state else {
+            return false;
+        };
+        if live.refresh(alloc, table, steps).is_ok() {
+            return false;
+        }
+        self.state = ViewState::Lost(version);
+        true
+    }
+}
+
+impl ViewState {
+    fn rebase(&mut self, mark: Mark)
+        ensures { self.new ≡ rebased mark self.old }
+    {
+        if let ViewState::Live(live) = self {
+            live.rebase(mark);
+        }
+    }
+}
