@@ -1,0 +1,12 @@
+pub mod Acts
+pub mod Builds
+pub mod Compares
+pub mod Drops
+pub mod Keeps
+pub mod Options
+pub mod Settles
+pub mod Shows
+pub mod Stands
+pub mod Steps
+pub mod Touches
+pub mod Windows

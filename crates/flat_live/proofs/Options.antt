@@ -1,0 +1,77 @@
+-- Facts of results, and of what is told under keys.
+use Rattle.std.proofs.Common.{◌≡◌, Bool, true, false, cond, List, [], ◌∷◌, Option, Some, None, Less, Equal, Greater, Ordering, refl, sym, ◌∙◌, ap, is_some, Bor}
+use Rattle.std.specs.Prelude.{OnOk, Result, Ok, Err}
+use Rattle.std.specs.Map.{lookup}
+use Rattle.std.specs.Option.{option_copied}
+use Rattle.std.specs.Ordering.{is_eq, match_ordering}
+use Rattle.view_types.specs.Keys.{key_order, same_key}
+use Rattle.view_types.specs.declared.key.ViewKey.{ViewKey}
+use Rattle.view_types.proofs.KeyOrder.{same_key_is_equal, same_key_itself}
+use Rattle.delta_core.specs.DirtySets.{with_touched}
+use Rattle.delta_core.proofs.KeyLemmas.{same_key-symm}
+
+pub ok_map : {A E : Type 0} {P Q : Type 0} (r : Result A E) → (P → Q) → OnOk r P → OnOk r Q
+ok_map (Ok x) f p = f p
+ok_map (Err e) f p = tt
+
+pub ok_all : {A E K : Type 0} (P : K → Type 0) (Q : Type 0) (r : Result A E) → (((k : K) → P k) → Q) → ((k : K) → OnOk r (P k)) → OnOk r Q
+ok_all P Q (Ok x) f p = f p
+ok_all P Q (Err e) f p = tt
+
+pub copied_some : {X : Type 0} (o : Option (Bor X)) → is_some (option_copied o) ≡ is_some o
+copied_some None = refl
+copied_some (Some x) = refl
+
+-- nothing stands under the key
+pub none_there : {X : Type 0} (f : ViewKey → Option X) (k q : ViewKey) → f k ≡ None → f q ≡ cond (same_key k q) None (f q)
+none_there {X} f k q none = by (same_key k q) refl
+  where
+    by : (b : Bool) → same_key k q ≡ b → f q ≡ cond b None (f q)
+    by true is = ap f (sym (same_key_is_equal k q is)) ∙ none
+    by false is = refl
+
+-- the test may look at the key itself
+pub at_same : {X : Type 0} (f : ViewKey → Option X) (k q : ViewKey) (o : Option X) → cond (same_key k q) (f k) o ≡ cond (same_key k q) (f q) o
+at_same {X} f k q o = by (same_key k q) refl
+  where
+    by : (b : Bool) → same_key k q ≡ b → cond b (f k) o ≡ cond b (f q) o
+    by true is = ap f (same_key_is_equal k q is)
+    by false is = refl
+
+pub itself : {X : Type 0} (k : ViewKey) (a o : Option X) → cond (same_key k k) a o ≡ a
+itself k a o = ap (λ b. cond b a o) (same_key_itself k)
+
+twice : {X : Type 0} (b : Bool) (a o : Option X) → cond b a (cond b None o) ≡ cond b a o
+twice true a o = refl
+twice false a o = refl
+
+pub replaced : {X : Type 0} (k q : ViewKey) (a o : Option X) → cond (same_key k q) a (cond (same_key k q) None o) ≡ cond (same_key k q) a o
+replaced k q a o = twice (same_key k q) a o
+
+-- ---- one key more is touched
+
+first_put : (k q : ViewKey) (b : Bool) (o : Option Bool) → cond (same_key q k) (Some b) o ≡ cond (same_key k q) (Some b) o
+first_put k q b o = ap (λ c. cond c (Some b) o) (same_key-symm q k)
+
+swapped : (k q : ViewKey) (b : Bool) (e : ViewKey × Bool) (o : Option Bool) → same_key k e.0 ≡ false → (c d : Bool) → same_key q e.0 ≡ c → same_key k q ≡ d
+    → cond c (Some e.1) (cond d (Some b) o) ≡ cond d (Some b) (cond c (Some e.1) o)
+swapped k q b e o apart true true is there =
+    let same : k ≡ q = same_key_is_equal k q there in
+    let wrong : true ≡ false = sym (ap (λ z. same_key z e.0) same ∙ is) ∙ apart in absurd (cc)
+swapped k q b e o apart true false is there = refl
+swapped k q b e o apart false true is there = refl
+swapped k q b e o apart false false is there = refl
+
+step : (e : ViewKey × Bool) (es : List (ViewKey × Bool)) (k : ViewKey) (b : Bool) (q : ViewKey) (o : Ordering) → key_order k e.0 ≡ o → cond (is_eq o) (Some e.1) (lookup (same_key k) es) ≡ None
+    → (lookup (same_key k) es ≡ None → lookup (same_key q) (with_touched es (k, b)) ≡ cond (same_key k q) (Some b) (lookup (same_key q) es))
+    → lookup (same_key q) (match_ordering o ((k, b) ∷ e ∷ es) (e ∷ es) (e ∷ with_touched es (k, b))) ≡ cond (same_key k q) (Some b) (cond (same_key q e.0) (Some e.1) (lookup (same_key q) es))
+step e es k b q Less is none later = first_put k q b (cond (same_key q e.0) (Some e.1) (lookup (same_key q) es))
+step e es k b q Equal is none later = absurd (let wrong : Some e.1 ≡ None = none in cc)
+step e es k b q Greater is none later =
+    ap (λ o. cond (same_key q e.0) (Some e.1) o) (later none)
+    ∙ swapped k q b e (lookup (same_key q) es) (ap is_eq is) (same_key q e.0) (same_key k q) refl refl
+
+pub lookup-with_touched : (es : List (ViewKey × Bool)) (k : ViewKey) (b : Bool) (q : ViewKey) → lookup (same_key k) es ≡ None
+    → lookup (same_key q) (with_touched es (k, b)) ≡ cond (same_key k q) (Some b) (lookup (same_key q) es)
+lookup-with_touched [] k b q none = first_put k q b None
+lookup-with_touched (e ∷ es) k b q none = step e es k b q (key_order k e.0) refl none (lookup-with_touched es k b q)

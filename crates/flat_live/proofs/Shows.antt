@@ -1,0 +1,65 @@
+-- What is shown of kept rows.
+use Rattle.std.proofs.Common.{◌≡◌, ℕ, zero, suc, false, List, [], ◌∷◌, map, drop, All, Some, None, refl, sym, ◌∙◌, ap, subst}
+use Rattle.std.specs.List.{IsDistinct, slice_get}
+use Rattle.std.proofs.lemmas.List.Elements.{All-nil, All-cons}
+use Rattle.plain_data.specs.Distinct.{AreDistinct}
+use Rattle.value_core.specs.declared.value.Value.{Value}
+use Rattle.cell_core.specs.Cells.{value_of}
+use Rattle.cell_core.specs.declared.cell.Cell.{Cell}
+use Rattle.view_types.specs.Rows.{AreShownRows, IsMarked}
+use Rattle.view_types.specs.declared.key.ViewKey.{ViewKey}
+use Rattle.view_types.specs.declared.key.ViewKey.TheVariants.{Row, Group}
+use Rattle.view_types.specs.declared.shown.HeaderColumn.{HeaderColumn}
+use Rattle.view_types.specs.declared.shown.ShownRow.{ShownRow}
+use Rattle.view_spec.specs.Cells.{with_value}
+use Rattle.view_spec.specs.declared.placed.PlacedRow.{PlacedRow}
+use Rattle.view_spec.proofs.LiveLaws.{shown_distinct}
+use Rattle.view_spec.proofs.ViewLaws.{IsDistinct-map, same_keys}
+use Rattle.key_map.specs.Keyed.{same_by}
+use Rattle.live_list.specs.Live.{live_key}
+use Rattle.flat_live.specs.Rows.{FlatRow, as_placed, cells_under, shown_row}
+
+no_cells : (hs : List HeaderColumn) (shown : List (List ℕ × Value)) → cells_under hs [] shown ≡ shown
+no_cells [] shown = refl
+no_cells (h ∷ hs) shown = refl
+
+-- the next column's value put in
+pub cells_more : (hs : List HeaderColumn) (cells : List Cell) (i : ℕ) (h : HeaderColumn) (c : Cell) (shown : List (List ℕ × Value)) → slice_get hs i ≡ Some h → slice_get cells i ≡ Some c
+    → cells_under (drop (suc i) hs) (drop (suc i) cells) (with_value shown h.text (value_of c)) ≡ cells_under (drop i hs) (drop i cells) shown
+cells_more [] cells i h c shown head cell = absurd (let wrong : None ≡ Some h = head in cc)
+cells_more (g ∷ hs) [] i h c shown head cell = absurd (let wrong : None ≡ Some c = cell in cc)
+cells_more (g ∷ hs) (d ∷ cells) zero h c shown head cell =
+    let one : g ≡ h = cc in
+    let two : d ≡ c = cc in
+    ap (λ (x : HeaderColumn). cells_under hs cells (with_value shown x.text (value_of c))) (sym one) ∙ ap (λ x. cells_under hs cells (with_value shown g.text (value_of x))) (sym two)
+cells_more (g ∷ hs) (d ∷ cells) (suc i) h c shown head cell = cells_more hs cells i h c shown head cell
+
+-- no cell is left
+pub cells_end : (hs : List HeaderColumn) (cells : List Cell) (i : ℕ) (shown : List (List ℕ × Value)) → slice_get cells i ≡ None
+    → cells_under (drop (suc i) hs) (drop (suc i) cells) shown ≡ cells_under (drop i hs) (drop i cells) shown
+cells_end hs [] zero shown none = no_cells (drop 1 hs) shown ∙ sym (no_cells hs shown)
+cells_end hs [] (suc i) shown none = no_cells (drop (suc (suc i)) hs) shown ∙ sym (no_cells (drop (suc i) hs) shown)
+cells_end hs (c ∷ cells) zero shown none = absurd (let wrong : Some c ≡ None = none in cc)
+cells_end [] (c ∷ cells) (suc i) shown none = refl
+cells_end (h ∷ hs) (c ∷ cells) (suc i) shown none = cells_end hs cells i shown none
+
+-- ---- shown rows
+
+rows_through : (header : List HeaderColumn) (xs : List FlatRow) → map (λ (p : PlacedRow). p.row) (map (as_placed header) xs) ≡ map (shown_row header) xs
+rows_through header [] = refl
+rows_through header (x ∷ xs) = ap (λ rs. shown_row header x ∷ rs) (rows_through header xs)
+
+unmarked : (k : ViewKey) → IsMarked k false
+unmarked (Row c) = refl
+unmarked (Group p) = tt
+
+all_unmarked : (header : List HeaderColumn) (xs : List FlatRow) → All (λ (r : ShownRow). IsMarked r.key r.mark) (map (shown_row header) xs)
+all_unmarked header [] = All-nil (λ (r : ShownRow). IsMarked r.key r.mark)
+all_unmarked header (x ∷ xs) = All-cons (λ (r : ShownRow). IsMarked r.key r.mark) (shown_row header x) (map (shown_row header) xs) (unmarked (live_key x)) (all_unmarked header xs)
+
+pub rows_shown : (header : List HeaderColumn) (xs : List FlatRow) → IsDistinct (same_by live_key) xs → AreShownRows (map (shown_row header) xs)
+rows_shown header xs differ = record {
+  distinct = subst (λ (rs : List ShownRow). AreDistinct (map (λ (r : ShownRow). r.key) rs)) (rows_through header xs)
+      (shown_distinct (map (as_placed header) xs) (IsDistinct-map (same_by live_key) same_keys (as_placed header) (λ x y apart. apart) xs differ));
+  marked = all_unmarked header xs;
+}

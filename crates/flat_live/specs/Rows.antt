@@ -1,0 +1,110 @@
+-- The rows that a live flat view keeps, and what is shown of them.
+use Rattle.std.specs.Prelude.{◌≡◌, ℕ, List, [], ◌∷◌, ◌++◌, Bool, false, cond, map, Option, Some, None, is_some, option_map}
+use Rattle.std.specs.Map.{lookup}
+use Rattle.value_core.specs.declared.value.Value.{Value}
+use Rattle.cell_core.specs.Cells.{value_of}
+use Rattle.cell_core.specs.declared.cell.Cell.{Cell}
+use Rattle.row_batch.specs.Batches.{pair_of}
+use Rattle.row_batch.specs.Changes.{row_at}
+use Rattle.row_batch.specs.declared.batch.Pair.{Pair}
+use Rattle.row_batch.specs.declared.change.RowChange.{RowChange}
+use Rattle.plan_types.specs.declared.plan.Plan.{Plan}
+use Rattle.place_order.specs.declared.rank.Rank.{Rank}
+use Rattle.place_order.specs.declared.rank.Rank.TheVariants.{Asc}
+use Rattle.view_types.specs.Keys.{same_key}
+use Rattle.view_types.specs.declared.key.ViewKey.{ViewKey}
+use Rattle.view_types.specs.declared.key.ViewKey.TheVariants.{Row, Group}
+use Rattle.view_types.specs.declared.shown.HeaderColumn.{HeaderColumn}
+use Rattle.view_types.specs.declared.shown.ShownRow.{ShownRow}
+use Rattle.delta_core.specs.KeySets.{is_among}
+use Rattle.delta_core.specs.Rows.{at_key}
+use Rattle.view_spec.specs.Cells.{with_value}
+use Rattle.view_spec.specs.Entries.{kept_at}
+use Rattle.view_spec.specs.Filters.{cell_in}
+use Rattle.view_spec.specs.Places.{place_of_row}
+use Rattle.view_spec.specs.Touching.{same_found}
+use Rattle.view_spec.specs.declared.placed.PlacedRow.{PlacedRow}
+use Rattle.live_list.specs.declared.list.LiveRow.{LiveRow}
+use Rattle.live_list.specs.Live.{live_key}
+
+-- a place, a key, and the cells of the shown columns
+abbrev pub FlatRow : Type 0
+FlatRow = List Rank × LiveRow (List Cell)
+
+-- ---- what is shown of it
+
+abbrev pub cells_under : List HeaderColumn → List Cell → List (List ℕ × Value) → List (List ℕ × Value)
+cells_under [] cells shown = shown
+cells_under (h ∷ hs) [] shown = shown
+cells_under (h ∷ hs) (c ∷ cells) shown = cells_under hs cells (with_value shown h.text (value_of c))
+
+abbrev pub shown_row : List HeaderColumn → FlatRow → ShownRow
+shown_row header e = record { key = e.1.key; mark = false; cells = cells_under header e.1.value [] }
+
+abbrev pub as_placed : List HeaderColumn → FlatRow → PlacedRow
+as_placed header e = record { place = e.0; row = shown_row header e }
+
+-- ---- what is kept of a row
+
+abbrev pub live_row : Plan → Pair → FlatRow
+live_row plan p = (place_of_row plan p, record { key = Row p.key; value = map (cell_in p.row) plan.columns })
+
+-- of a row of the table, where the plan keeps it
+abbrev pub live_at : Plan → Option Pair → Option FlatRow
+live_at plan o = option_map (live_row plan) (kept_at plan o)
+
+-- the place ends with the key
+pub record IsOwn (e : FlatRow) : Type 0 where
+  pub ranks : List Rank
+  pub cell : Cell
+  pub key : e.1.key ≡ Row cell
+  pub place : e.0 ≡ ranks ++ Asc (value_of cell) ∷ []
+
+abbrev pub AreOwn : List FlatRow → Type 0
+AreOwn rows = (k : ViewKey) (e : FlatRow) → at_key live_key k rows ≡ Some e → IsOwn e
+
+-- ---- changes: the last one at each key counts
+
+abbrev pub changed_keys : List RowChange → List ViewKey
+changed_keys changes = map (λ (c : RowChange). Row c.key) changes
+
+abbrev pub live_of : Plan → RowChange → Option FlatRow
+live_of plan c = live_at plan (option_map (pair_of c.key) c.new)
+
+-- what stands under a key after changes of some rows
+abbrev pub settled : Plan → List FlatRow → List RowChange → ViewKey → Option FlatRow
+settled plan rows [] k = at_key live_key k rows
+settled plan rows (c ∷ cs) k =
+    cond (is_among (changed_keys cs) k) (settled plan rows cs k) (cond (same_key (Row c.key) k) (live_of plan c) (settled plan rows cs k))
+
+-- what is told of a key, with each row shown under its own header: whether it was shown, where what is shown differs
+abbrev pub told : List HeaderColumn → List HeaderColumn → Option FlatRow → Option FlatRow → Option Bool
+told first last was now = cond (same_found (option_map (as_placed first) was) (option_map (as_placed last) now)) None (Some (is_some was))
+
+-- the last changes at these keys were acted on: the keys seen, the rows now, and the keys touched
+pub record IsSettled (plan : Plan) (header : List HeaderColumn) (first : List FlatRow) (changes : List RowChange) (seen_keys : List (ViewKey × Bool)) (now : List FlatRow) (noted : List (ViewKey × Bool)) : Type 0 where
+  pub seen : (k : ViewKey) → is_some (lookup (same_key k) seen_keys) ≡ is_among (changed_keys changes) k
+  pub own : AreOwn now
+  pub rows : (k : ViewKey) → at_key live_key k now ≡ settled plan first changes k
+  pub touched : (k : ViewKey) → lookup (same_key k) noted ≡ told header header (at_key live_key k first) (settled plan first changes k)
+
+-- ---- the rows of a table
+
+-- what is kept under a key
+abbrev pub live_under : Plan → List Pair → ViewKey → Option FlatRow
+live_under plan pairs (Row key) = live_at plan (option_map (pair_of key) (row_at pairs key))
+live_under plan pairs (Group path) = None
+
+pub record IsKeptOf (plan : Plan) (pairs : List Pair) (now : List FlatRow) : Type 0 where
+  pub own : AreOwn now
+  pub rows : (k : ViewKey) → at_key live_key k now ≡ live_under plan pairs k
+
+-- ---- two lists, each under its header
+
+-- told of the keys that the first rows of a list have
+pub record TellsOld (first last : List HeaderColumn) (was now met : List FlatRow) (noted : List (ViewKey × Bool)) : Type 0 where
+  pub each : (k : ViewKey) → lookup (same_key k) noted ≡ cond (is_some (at_key live_key k met)) (told first last (at_key live_key k was) (at_key live_key k now)) None
+
+pub record TellsNew (first last : List HeaderColumn) (was now met : List FlatRow) (noted : List (ViewKey × Bool)) : Type 0 where
+  pub each : (k : ViewKey) → lookup (same_key k) noted
+      ≡ cond (is_some (at_key live_key k met)) (told first last (at_key live_key k was) (at_key live_key k now)) (cond (is_some (at_key live_key k was)) (told first last (at_key live_key k was) (at_key live_key k now)) None)

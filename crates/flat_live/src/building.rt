@@ -1,0 +1,72 @@
+ghost use Rattle.std.specs.Prelude.{◌≡◌, ◌+◌, ◌<◌, IfOk, OnOk, drop, length};
+ghost use Rattle.view_spec.specs.Openings.{Opening};
+ghost use Rattle.view_kept.specs.Steps.{side_of};
+ghost use Rattle.flat_show.specs.Plans.{IsFlatPlan};
+ghost use Rattle.flat_live.specs.Flat.{StandsFlat};
+ghost use Rattle.flat_live.specs.Rows.{IsKeptOf};
+
+use crate::keep::keep;
+use crate::live::FlatLive;
+use cell_core::{Memory, Row, Steps};
+use flat_show::header_of;
+use live_list::LiveList;
+use plan_types::Plan;
+use std::alloc::Global;
+use std::sync::ledger::Ledger;
+use table_core::Table;
+
+/// The view of the table's rows by a flat plan without splits. `steps` counts the visits of rows.
+///
+/// Want of memory is the only refusal.
+pub fn build<L: Ledger>(
+    alloc: Global,
+    plan: Plan,
+    table: &Table,
+    steps: &mut Steps<L>,
+) -> Result<FlatLive, Memory>
+    requires { IsFlatPlan table.now.schema.columns plan }
+    ensures { (opening : Opening) → IfOk result (λ view. StandsFlat view (side_of plan opening table.now)) }
+{
+    let _size = table.size();
+    let header = header_of(alloc, table.schema(), &plan)?;
+    let rows = all_rows(alloc, &plan, table, steps)?;
+    let _count = rows.len();
+    Ok(FlatLive { plan, header, rows })
+}
+
+/// The rows of the table that the plan keeps.
+fn all_rows<L: Ledger>(
+    alloc: Global,
+    plan: &Plan,
+    table: &Table,
+    steps: &mut Steps<L>,
+) -> Result<LiveList<Row>, Memory>
+    ensures { IfOk result (λ rows. IsKeptOf plan.now table.now.store.pairs rows) }
+{
+    let mut rows = LiveList::new(alloc);
+    let count = table.size();
+    for i in 0..count {
+        keep_at(alloc, plan, table, count - 1 - i, &mut rows, steps)?;
+    }
+    Ok(rows)
+}
+
+/// Puts the row at a place of the table in, after those behind it.
+fn keep_at<L: Ledger>(
+    alloc: Global,
+    plan: &Plan,
+    table: &Table,
+    at: usize,
+    rows: &mut LiveList<Row>,
+    steps: &mut Steps<L>,
+) -> Result<(), Memory>
+    requires within { at < length table.now.store.pairs }
+    requires kept { IsKeptOf plan.now (drop (at + 1) table.now.store.pairs) rows.old }
+    ensures { OnOk result (IsKeptOf plan.now (drop at table.now.store.pairs) rows.new) }
+{
+    let _size = table.size();
+    match table.at(at, steps) {
+        Some((key, row)) => keep(alloc, plan, key, row, rows),
+        None => Ok(()),
+    }
+}

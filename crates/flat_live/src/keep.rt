@@ -1,0 +1,63 @@
+ghost use Rattle.std.specs.Prelude.{◌≡◌, All, None, OnOk, IfOk, Some, cond, map};
+ghost use Rattle.row_batch.specs.Batches.{pair_of};
+ghost use Rattle.delta_core.specs.Rows.{at_key};
+ghost use Rattle.view_types.specs.Keys.{same_key};
+ghost use Rattle.view_types.specs.declared.key.ViewKey.{ViewKey as KeyData};
+ghost use Rattle.view_types.specs.declared.key.ViewKey.TheVariants.{Row as RowKey};
+ghost use Rattle.view_spec.specs.Filters.{cell_in};
+ghost use Rattle.live_list.specs.Live.{live_key};
+ghost use Rattle.flat_live.specs.Rows.{AreOwn, live_at};
+
+use cell_core::{Cell, Copies, Listed, Memory, Row};
+use flat_show::{full_row, place_of_row};
+use live_list::{LiveList, RowPlace};
+use plan_types::Plan;
+use row_filter::keeps;
+use std::alloc::Global;
+use view_types::ViewKey;
+
+/// Puts a row of the table in, where the plan keeps it.
+pub(crate) fn keep(
+    alloc: Global,
+    plan: &Plan,
+    key: &Cell,
+    row: &Row,
+    rows: &mut LiveList<Row>,
+) -> Result<(), Memory>
+    requires own { AreOwn rows.old }
+    requires absent { at_key live_key (RowKey key.now) rows.old ≡ None }
+    ensures own { OnOk result (AreOwn rows.new) }
+    ensures rows { (k : KeyData) → OnOk result (at_key live_key k rows.new ≡ cond (same_key (RowKey key.now) k) (live_at plan.now (Some (pair_of key.now row.now))) (at_key live_key k rows.old)) }
+{
+    let full = full_row(alloc, plan, row)?;
+    if !keeps(&plan.filters, full.as_slice()) {
+        return Ok(());
+    }
+    let place = RowPlace::new(place_of_row(alloc, plan, key, &full)?);
+    let cells = cells_of(alloc, plan, full.as_slice())?;
+    let key = ViewKey::Row(key.copies(alloc)?);
+    let _count = rows.len();
+    rows.put(alloc, place, key, cells)
+}
+
+/// The cells of the shown columns.
+fn cells_of(alloc: Global, plan: &Plan, row: &[Cell]) -> Result<Row, Memory>
+    ensures { IfOk result (λ cells. cells ≡ map (cell_in row.now) plan.now.columns) }
+{
+    let columns = plan.columns.as_slice();
+    let mut cells = Vec::with_capacity(alloc, columns.len())?;
+    for column in columns {
+        cells.push(cell_of(alloc, row, *column)?)?;
+    }
+    Ok(Listed::from_vec(cells))
+}
+
+/// The cell of a column. A row has null past its last cell.
+fn cell_of(alloc: Global, row: &[Cell], column: usize) -> Result<Cell, Memory>
+    ensures { IfOk result (λ cell. cell ≡ cell_in row.now column) }
+{
+    match row.get(column) {
+        Some(cell) => cell.copies(alloc),
+        None => Ok(Cell::Null),
+    }
+}

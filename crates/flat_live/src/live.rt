@@ -1,0 +1,174 @@
+ghost use Rattle.std.specs.Prelude.{◌≡◌, ◌-◌, IfOk, OnOk, [], drop, false, map, take};
+ghost use Rattle.view_spec.specs.Touching.{head_touched};
+ghost use Rattle.view_spec.specs.Views.{Side};
+ghost use Rattle.view_kept.specs.Steps.{IsStep, side_at, touched_between};
+ghost use Rattle.flat_live.specs.Rows.{shown_row};
+
+use crate::building::build;
+use crate::changes::settle_all;
+use crate::comparing::{compare_new, compare_old};
+use crate::showing::show_row;
+use cell_core::{Copies, Listed, Memory, Row, Steps};
+use delta_core::{ShownNow, Touched};
+use live_list::LiveList;
+use plan_types::Plan;
+use row_batch::RowChange;
+use std::alloc::Global;
+use std::sync::ledger::Ledger;
+use table_core::Table;
+use view_kept::KeptView;
+use view_shape::OpenState;
+use view_types::{Header, HeaderColumn, ShownRow, ShownRows, ViewKey, same_header};
+
+/// A flat view without splits that is kept from step to step by the changes.
+#[derive(Drop)]
+pub struct FlatLive {
+    /// The plan that it is a view by.
+    pub plan: Plan,
+    /// The text and type of each shown column.
+    pub header: Header,
+    /// The cells of the shown columns of each kept row.
+    pub rows: LiveList<Row>,
+}
+
+impl ShownNow for FlatLive {
+    ghost use Rattle.flat_live.specs.Flat.{flat_shown};
+
+    ghost shown = { flat_shown };
+
+    fn position(&self, key: &ViewKey) -> Option<usize> {
+        let _count = self.rows.len();
+        self.rows.position(key)
+    }
+
+    fn row(&self, alloc: Global, key: &ViewKey) -> Result<Option<ShownRow>, Memory> {
+        match self.rows.get(key) {
+            Some(entry) => Ok(Some(show_row(alloc, self.header.as_slice(), entry)?)),
+            None => Ok(None),
+        }
+    }
+
+    fn header(&self, alloc: Global) -> Result<Header, Memory> {
+        self.header.copies(alloc)
+    }
+}
+
+impl FlatLive {
+    ghost use Rattle.flat_live.specs.Flat.{StandsFlat, flat_shown};
+
+    /// The rows at positions from `from` up to and without `to`, as far as there are any.
+    fn rows_in(&self, alloc: Global, from: u64, to: u64) -> Result<ShownRows, Memory>
+        ensures { IfOk result (λ rows. rows ≡ take (to - from) (drop from (flat_shown self.now).rows)) }
+    {
+        let _count = self.rows.len();
+        let rows = rows_between(alloc, self.header.as_slice(), &self.rows, from, to)?;
+        Ok(ShownRows::from_listed(Listed::from_vec(rows)))
+    }
+
+    /// Brings the view to what the table's rows are after these changes, and tells what that touched.
+    fn take_changes(
+        &mut self,
+        alloc: Global,
+        table: &Table,
+        changes: &[RowChange],
+        touched: &mut Touched,
+    ) -> Result<(), Memory>
+        requires stood { (s : Side) × StandsFlat self.old s × IsStep s changes.now table.now }
+        requires empty { touched.old.keys ≡ [] }
+        requires clear { touched.old.header ≡ false }
+        ensures stands { (s : Side) → StandsFlat self.old s → IsStep s changes.now table.now → OnOk result (StandsFlat self.new (side_at s table.now)) }
+        ensures keys { (s : Side) → StandsFlat self.old s → IsStep s changes.now table.now → OnOk result (touched.new.keys ≡ touched_between s (side_at s table.now)) }
+        ensures header { (s : Side) → StandsFlat self.old s → IsStep s changes.now table.now → OnOk result (touched.new.header ≡ head_touched s (side_at s table.now)) }
+    {
+        let _size = table.size();
+        settle_all(
+            alloc,
+            &self.plan,
+            self.header.as_slice(),
+            changes,
+            &mut self.rows,
+            &mut touched.keys,
+        )?;
+        let _count = self.rows.len();
+        Ok(())
+    }
+}
+
+impl KeptView for FlatLive {
+    ghost use Rattle.flat_live.specs.Flat.{StandsFlat, fits_flat, shows_flat};
+
+    ghost stands_for = { StandsFlat };
+
+    ghost fits = { fits_flat };
+
+    fn len(&self) -> usize {
+        self.rows.len()
+    }
+
+    fn window(&self, alloc: Global, from: u64, to: u64) -> Result<ShownRows, Memory> {
+        self.rows_in(alloc, from, to)
+    }
+
+    fn apply<L: Ledger>(
+        &mut self,
+        alloc: Global,
+        table: &Table,
+        changes: &[RowChange],
+        touched: &mut Touched,
+        _steps: &mut Steps<L>,
+    ) -> Result<(), Memory> {
+        self.take_changes(alloc, table, changes, touched)
+    }
+
+    fn reshape<L: Ledger>(
+        &self,
+        alloc: Global,
+        plan: Plan,
+        _opening: &OpenState,
+        table: &Table,
+        touched: &mut Touched,
+        steps: &mut Steps<L>,
+    ) -> Result<FlatLive, Memory> {
+        let _size = table.size();
+        let other = build(alloc, plan, table, steps)?;
+        let (first, last) = (self.header.as_slice(), other.header.as_slice());
+        compare_old(
+            alloc,
+            first,
+            last,
+            &self.rows,
+            &other.rows,
+            &mut touched.keys,
+        )?;
+        compare_new(
+            alloc,
+            first,
+            last,
+            &self.rows,
+            &other.rows,
+            &mut touched.keys,
+        )?;
+        touched.header = !same_header(first, last);
+        Ok(other)
+    }
+
+    ghost shows = { shows_flat };
+}
+
+/// The rows at positions from `from` up to and without `to`, as they are shown.
+fn rows_between(
+    alloc: Global,
+    header: &[HeaderColumn],
+    rows: &LiveList<Row>,
+    from: u64,
+    to: u64,
+) -> Result<Vec<ShownRow>, Memory>
+    ensures { IfOk result (λ copies. copies.items ≡ take (to - from) (drop from (map (shown_row header.now) rows.now))) }
+{
+    let part = rows.window(from as usize, to as usize)?;
+    let mut copies = Vec::with_capacity(alloc, part.len())?;
+    for entry in &part {
+        copies.push(show_row(alloc, header, *entry)?)?;
+    }
+    Ok(copies)
+}
