@@ -1,0 +1,5 @@
+pub mod Members
+pub mod Names
+pub mod Plans
+pub mod Reading
+pub mod Writing
