@@ -29,7 +29,7 @@ impl AnyAggregate {
         ensures stands { IfOk result (λ it. any_stands it []) }
     {
         match name {
-            AggName::Count => Ok(AnyAggregate::Rows(RowCount::make())),
+            AggName::Count => Ok(AnyAggregate::Rows(RowCount::new())),
             AggName::Sum => Ok(summed(SumForm::Sum)),
             AggName::AbsSum => Ok(summed(SumForm::AbsSum)),
             AggName::SumAbs => Ok(summed(SumForm::SumAbs)),
@@ -100,19 +100,19 @@ fn summed(form: SumForm) -> AnyAggregate
     ensures named { any_name result ≡ sum_name form }
     ensures stands { any_stands result [] }
 {
-    AnyAggregate::Sum(Summed::make(form))
+    AnyAggregate::Sum(Summed::new(form))
 }
 
 fn chosen(alloc: Global, choice: Choice) -> AnyAggregate
     ensures named { any_name result ≡ choice_name choice }
     ensures stands { any_stands result [] }
 {
-    AnyAggregate::Bag(Bagged::make(alloc, choice))
+    AnyAggregate::Bag(Bagged::new(alloc, choice))
 }
 
 fn at_end(alloc: Global, end: End) -> AnyAggregate
     ensures named { any_name result ≡ end_name end }
     ensures stands { any_stands result [] }
 {
-    AnyAggregate::End(EndRow::make(alloc, end))
+    AnyAggregate::End(EndRow::new(alloc, end))
 }

@@ -11,7 +11,7 @@ ghost use Rattle.agg_core.specs.Aggregates.{different, is_other, last_of, middle
 ghost use Rattle.agg_core.specs.Bags.{repeated, with_other, without_other};
 
 use crate::walk;
-use cell_core::{Cell, Memory};
+use cell_core::{Cell, Copies, Memory};
 use std::alloc::Global;
 use std::collections::BTreeMap;
 use std::marker::Model;
@@ -38,7 +38,7 @@ impl Model for Bag {
 }
 
 impl Bag {
-    pub fn make(alloc: Global) -> Bag
+    pub fn new(alloc: Global) -> Bag
         ensures { result ≡ [] }
     {
         Bag {

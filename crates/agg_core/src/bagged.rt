@@ -31,13 +31,13 @@ pub struct Bagged {
 
 impl Bagged {
     /// That aggregate of no rows.
-    pub fn make(alloc: Global, choice: Choice) -> Bagged
+    pub fn new(alloc: Global, choice: Choice) -> Bagged
         ensures choice { result.choice ≡ choice }
         ensures stands { IsBagOf (choice_name choice) result.bag [] }
     {
         Bagged {
             choice,
-            bag: Bag::make(alloc),
+            bag: Bag::new(alloc),
             alloc,
         }
     }

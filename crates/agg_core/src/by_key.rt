@@ -3,7 +3,7 @@ ghost use Rattle.std.specs.Option.{option_copied};
 ghost use Rattle.agg_core.specs.Aggregates.{last_of};
 ghost use Rattle.agg_core.specs.Pairs.{cells_of, with_pair, without_key};
 
-use cell_core::{Cell, Memory};
+use cell_core::{Cell, Copies, Memory};
 use std::alloc::Global;
 use std::collections::BTreeMap;
 use std::marker::Model;
@@ -25,7 +25,7 @@ impl Model for ByKey {
 }
 
 impl ByKey {
-    pub fn make(alloc: Global) -> ByKey
+    pub fn new(alloc: Global) -> ByKey
         ensures { result ≡ [] }
     {
         ByKey {

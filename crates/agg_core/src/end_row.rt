@@ -25,13 +25,13 @@ pub struct EndRow {
 
 impl EndRow {
     /// The cell at that end of no rows.
-    pub fn make(alloc: Global, end: End) -> EndRow
+    pub fn new(alloc: Global, end: End) -> EndRow
         ensures end { result.end ≡ end }
         ensures stands { AreRowsOf (end_name end) result.rows [] }
     {
         EndRow {
             end,
-            rows: ByKey::make(alloc),
+            rows: ByKey::new(alloc),
             alloc,
         }
     }

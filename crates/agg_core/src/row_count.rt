@@ -12,7 +12,7 @@ pub struct RowCount {
 
 impl RowCount {
     /// The count of no rows.
-    pub fn make() -> RowCount
+    pub fn new() -> RowCount
         ensures { IsCountOf result.rows [] }
     {
         RowCount { rows: 0 }

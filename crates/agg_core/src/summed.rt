@@ -39,7 +39,7 @@ impl SumForm {
 
 impl Summed {
     /// That aggregate of no rows.
-    pub fn make(form: SumForm) -> Summed
+    pub fn new(form: SumForm) -> Summed
         ensures form { result.form ≡ form }
         ensures stands { IsTotalOf (sum_name form) (counted form) result.total.sum result.total.count [] }
     {

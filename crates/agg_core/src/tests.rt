@@ -2,7 +2,7 @@ ghost use Rattle.std.specs.Prelude.{◌≡◌, [], IsTrue, OnOk};
 ghost use Rattle.agg_core.specs.Types.{IsTaken};
 
 use crate::{Aggregate, AnyAggregate, takes};
-use cell_core::{Cell, CellType, MAX_INTEGER, MAX_ROWS, Memory, Text, Value, is_integer};
+use cell_core::{Cell, CellType, Copies, MAX_INTEGER, MAX_ROWS, Memory, Text, Value, is_integer};
 use plan_types::AggName;
 use std::alloc::Global;
 use std::collections::BTreeMap;

@@ -52,20 +52,6 @@ pub enum Direction {
 }
 
 impl Cell {
-    /// An equal cell.
-    pub fn copy(&self, alloc: Global) -> Result<Cell, Memory>
-        ensures { IfOk result (λ copy. copy ≡ self.now) }
-    {
-        match self {
-            Cell::Null => Ok(Cell::Null),
-            Cell::Bool(truth) => Ok(Cell::Bool(*truth)),
-            Cell::Int(number) => Ok(Cell::Int(*number)),
-            Cell::Date(day) => Ok(Cell::Date(*day)),
-            Cell::Moment(time) => Ok(Cell::Moment(*time)),
-            Cell::Words(text) => Ok(Cell::Words(text.copies(alloc)?)),
-        }
-    }
-
     /// The total order of cells: by kind, then by value. Null is least, and false is before true.
     pub fn order(&self, other: &Cell) -> Ordering
         ensures { result ≡ cell_order self.now other.now }
@@ -90,7 +76,7 @@ impl Cell {
             Cell::Int(number) => Some(Value::Whole(*number as i128)),
             Cell::Date(day) => Some(Value::Date(*day)),
             Cell::Moment(time) => Some(Value::Moment(*time)),
-            Cell::Words(text) => Some(Value::Words(text.copies(alloc)?)),
+            Cell::Words(text) => Some(Value::Words(text.copy(alloc)?)),
         })
     }
 }
@@ -120,8 +106,15 @@ impl Cell {
 }
 
 impl Copies for Cell {
-    fn copies(&self, alloc: Global) -> Result<Cell, Memory> {
-        self.copy(alloc)
+    fn copy(&self, alloc: Global) -> Result<Cell, Memory> {
+        match self {
+            Cell::Null => Ok(Cell::Null),
+            Cell::Bool(truth) => Ok(Cell::Bool(*truth)),
+            Cell::Int(number) => Ok(Cell::Int(*number)),
+            Cell::Date(day) => Ok(Cell::Date(*day)),
+            Cell::Moment(time) => Ok(Cell::Moment(*time)),
+            Cell::Words(text) => Ok(Cell::Words(text.copy(alloc)?)),
+        }
     }
 }
 

@@ -103,7 +103,7 @@ fn copy_of(alloc: Global, value: &Raw) -> Result<Raw, Memory>
         Raw::Bool(truth) => Ok(Raw::Bool(*truth)),
         Raw::Int(number) => Ok(Raw::Int(*number)),
         Raw::OtherNumber => Ok(Raw::OtherNumber),
-        Raw::Words(text) => Ok(Raw::Words(text.copies(alloc)?)),
+        Raw::Words(text) => Ok(Raw::Words(text.copy(alloc)?)),
         Raw::List(list) => Ok(Raw::List(copy_of_list(alloc, list)?)),
         Raw::Map(map) => Ok(Raw::Map(copy_of_map(alloc, map)?)),
     }
@@ -126,7 +126,7 @@ fn copy_of_map(alloc: Global, map: &RawMap) -> Result<RawMap, Memory>
 {
     let mut entries = BTreeMap::new(alloc);
     for (name, value) in map.entries.iter() {
-        let name = name.copies(alloc)?;
+        let name = name.copy(alloc)?;
         drop(entries.insert(name, copy_of(alloc, value)?)?);
     }
     Ok(RawMap { entries })

@@ -6,7 +6,7 @@ ghost use Rattle.delta_core.specs.Preparing.{found_among, kept_rows, others, pas
 
 use crate::delta::{Delta, Mark, Put};
 use crate::folding::{FoldRefused, Held};
-use cell_core::Memory;
+use cell_core::{Copies, Memory};
 use std::alloc::Global;
 use std::collections::BTreeSet;
 use view_types::{ShownRow, ViewKey};

@@ -55,7 +55,7 @@ impl Model for DirtySet {
 
 impl DirtySet {
     /// A set that nothing was joined to. It takes no memory.
-    pub fn make(alloc: Global, bound: u64) -> DirtySet
+    pub fn new(alloc: Global, bound: u64) -> DirtySet
         ensures { result ≡ dirty_of bound [] false }
     {
         DirtySet {

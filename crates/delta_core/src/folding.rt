@@ -111,7 +111,7 @@ fn copied(alloc: Global, puts: &[Put]) -> Result<Vec<Put>, Memory>
     for put in puts {
         copies.push(Put {
             position: put.position,
-            row: put.row.copies(alloc)?,
+            row: put.row.copy(alloc)?,
         })?;
     }
     Ok(copies)
@@ -121,7 +121,7 @@ fn header_of(alloc: Global, delta: &Delta) -> Result<Option<Header>, Memory>
     ensures { IfOk result (λ header. header ≡ delta.now.header) }
 {
     match &delta.header {
-        Some(header) => Ok(Some(header.copies(alloc)?)),
+        Some(header) => Ok(Some(header.copy(alloc)?)),
         None => Ok(None),
     }
 }

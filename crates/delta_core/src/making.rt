@@ -8,7 +8,7 @@ ghost use Rattle.delta_core.specs.Rows.{has_row};
 use crate::delta::{Put, Puts};
 use crate::dirty::ShownNow;
 use crate::keys::Keys;
-use cell_core::{Listed, Memory};
+use cell_core::{Copies, Listed, Memory};
 use std::alloc::{AllocError, Global};
 use std::collections::BTreeMap;
 use view_types::{ShownRow, ViewKey};

@@ -26,13 +26,13 @@ impl ShownNow for Now {
 
     fn row(&self, alloc: Global, key: &ViewKey) -> Result<Option<ShownRow>, Memory> {
         match found(self.shown.rows.as_slice(), key) {
-            Some(row) => Ok(Some(row.copies(alloc)?)),
+            Some(row) => Ok(Some(row.copy(alloc)?)),
             None => Ok(None),
         }
     }
 
     fn header(&self, alloc: Global) -> Result<Header, Memory> {
-        self.shown.header.copies(alloc)
+        self.shown.header.copy(alloc)
     }
 }
 
@@ -124,7 +124,7 @@ const END: Mark = Mark {
 };
 
 fn delta_to(alloc: Global, now: Shown, steps: &[Touched]) -> Result<Delta, Fail> {
-    let mut set = DirtySet::make(alloc, 9);
+    let mut set = DirtySet::new(alloc, 9);
     for step in steps {
         set.join(alloc, step)?;
     }

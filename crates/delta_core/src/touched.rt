@@ -1,7 +1,7 @@
 ghost use Rattle.std.specs.Prelude.{◌≡◌, [], length, map, OnOk, OnErr};
 ghost use Rattle.delta_core.specs.DirtySets.{joined, with_touched, without};
 
-use cell_core::Memory;
+use cell_core::{Copies, Memory};
 use std::alloc::Global;
 use std::collections::BTreeMap;
 use std::marker::Model;

@@ -4,7 +4,7 @@ ghost use Rattle.expr_spec.specs.Values.{one_value, two_value, three_value, func
 use crate::calendar::{bucket, date_of, day, hour, month, year};
 use crate::numbers::{absolute, greatest, least};
 use crate::texts::{begins, characters, contains, ends, joined};
-use cell_core::{Cell, Memory};
+use cell_core::{Cell, Copies, Memory};
 use expr_spec::Function;
 use std::alloc::Global;
 

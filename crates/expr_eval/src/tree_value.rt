@@ -21,7 +21,7 @@ pub fn eval(alloc: Global, tree: &Tree, row: &Row) -> Result<Cell, Memory>
         TreeNode::Column(_, number) => column_value(alloc, *number, row),
         TreeNode::Number(number) => Ok(whole(i128::from(*number))),
         TreeNode::Truth(truth) => Ok(Cell::Bool(*truth)),
-        TreeNode::Words(text) => Ok(Cell::Words(text.copies(alloc)?)),
+        TreeNode::Words(text) => Ok(Cell::Words(text.copy(alloc)?)),
         TreeNode::Unary(op, a) => Ok(unary(*op, &eval(alloc, a.get(), row)?)),
         TreeNode::Binary(op, a, b) => {
             let left = eval(alloc, a.get(), row)?;

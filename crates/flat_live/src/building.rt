@@ -27,7 +27,7 @@ pub fn build<L: Ledger>(
     requires { IsFlatPlan table.now.schema.columns plan }
     ensures { (opening : Opening) → IfOk result (λ view. StandsFlat view (side_of plan opening table.now)) }
 {
-    let _size = table.size();
+    let _size = table.len();
     let header = header_of(alloc, table.schema(), &plan)?;
     let rows = all_rows(alloc, &plan, table, steps)?;
     let _count = rows.len();
@@ -44,7 +44,7 @@ fn all_rows<L: Ledger>(
     ensures { IfOk result (λ rows. IsKeptOf plan.now table.now.store.pairs rows) }
 {
     let mut rows = LiveList::new(alloc);
-    let count = table.size();
+    let count = table.len();
     for i in 0..count {
         keep_at(alloc, plan, table, count - 1 - i, &mut rows, steps)?;
     }
@@ -64,7 +64,7 @@ fn keep_at<L: Ledger>(
     requires kept { IsKeptOf plan.now (drop (at + 1) table.now.store.pairs) rows.old }
     ensures { OnOk result (IsKeptOf plan.now (drop at table.now.store.pairs) rows.new) }
 {
-    let _size = table.size();
+    let _size = table.len();
     match table.at(at, steps) {
         Some((key, row)) => keep(alloc, plan, key, row, rows),
         None => Ok(()),

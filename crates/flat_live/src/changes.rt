@@ -72,7 +72,7 @@ fn settle_last(
         → OnOk result (IsSettled plan.now header.now first (drop at changes.now) seen.new rows.new touched.new) }
 {
     let change = &changes[at];
-    let key = ViewKey::Row(change.key.copies(alloc)?);
+    let key = ViewKey::Row(change.key.copy(alloc)?);
     if seen.get(&key).is_some() {
         return Ok(());
     }

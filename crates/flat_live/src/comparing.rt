@@ -5,7 +5,7 @@ ghost use Rattle.view_types.specs.Keys.{key_order};
 ghost use Rattle.flat_live.specs.Rows.{TellsNew, TellsOld};
 
 use crate::showing::stays;
-use cell_core::{Memory, Row};
+use cell_core::{Copies, Memory, Row};
 use delta_core::TouchedKeys;
 use live_list::LiveList;
 use std::alloc::Global;

@@ -35,7 +35,7 @@ pub(crate) fn keep(
     }
     let place = RowPlace::new(place_of_row(alloc, plan, key, &full)?);
     let cells = cells_of(alloc, plan, full.as_slice())?;
-    let key = ViewKey::Row(key.copies(alloc)?);
+    let key = ViewKey::Row(key.copy(alloc)?);
     let _count = rows.len();
     rows.put(alloc, place, key, cells)
 }
@@ -57,7 +57,7 @@ fn cell_of(alloc: Global, row: &[Cell], column: usize) -> Result<Cell, Memory>
     ensures { IfOk result (λ cell. cell ≡ cell_in row.now column) }
 {
     match row.get(column) {
-        Some(cell) => cell.copies(alloc),
+        Some(cell) => cell.copy(alloc),
         None => Ok(Cell::Null),
     }
 }

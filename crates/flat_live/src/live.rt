@@ -49,7 +49,7 @@ impl ShownNow for FlatLive {
     }
 
     fn header(&self, alloc: Global) -> Result<Header, Memory> {
-        self.header.copies(alloc)
+        self.header.copy(alloc)
     }
 }
 
@@ -80,7 +80,7 @@ impl FlatLive {
         ensures keys { (s : Side) → StandsFlat self.old s → IsStep s changes.now table.now → OnOk result (touched.new.keys ≡ touched_between s (side_at s table.now)) }
         ensures header { (s : Side) → StandsFlat self.old s → IsStep s changes.now table.now → OnOk result (touched.new.header ≡ head_touched s (side_at s table.now)) }
     {
-        let _size = table.size();
+        let _size = table.len();
         settle_all(
             alloc,
             &self.plan,
@@ -129,7 +129,7 @@ impl KeptView for FlatLive {
         touched: &mut Touched,
         steps: &mut Steps<L>,
     ) -> Result<FlatLive, Memory> {
-        let _size = table.size();
+        let _size = table.len();
         let other = build(alloc, plan, table, steps)?;
         let (first, last) = (self.header.as_slice(), other.header.as_slice());
         compare_old(

@@ -34,7 +34,7 @@ pub(crate) fn settle(
     ensures touched { (k : KeyData) → OnOk result (lookup (same_key k) touched.new
         ≡ cond (same_key (RowKey change.now.key) k) (told header.now header.now (at_key live_key k rows.old) (live_of plan.now change.now)) (lookup (same_key k) touched.old)) }
 {
-    let key = ViewKey::Row(change.key.copies(alloc)?);
+    let key = ViewKey::Row(change.key.copy(alloc)?);
     let was = rows.take(&key);
     keep_new(alloc, plan, change, rows)?;
     let now = rows.get(&key);

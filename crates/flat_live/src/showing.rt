@@ -47,7 +47,7 @@ fn put_value(alloc: Global, shown: &mut ShownCells, text: &Text, cell: &Cell) ->
     ensures { OnOk result (shown.new ≡ with_value shown.old text.now (value_of cell.now)) }
 {
     if let Some(value) = cell.value(alloc)? {
-        shown.put(text.copies(alloc)?, value)?;
+        shown.put(text.copy(alloc)?, value)?;
     }
     Ok(())
 }

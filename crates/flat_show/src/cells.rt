@@ -35,7 +35,7 @@ fn header_column(
     ensures { IfOk result (λ column. column ≡ head_at schema.now.columns plan.now [] i) }
 {
     Ok(HeaderColumn {
-        text: column_name(schema, plan, i).copies(alloc)?,
+        text: column_name(schema, plan, i).copy(alloc)?,
         kind: ShownType::of(column_kind(schema, plan, i)),
     })
 }
@@ -105,7 +105,7 @@ fn put_value(
         return Ok(());
     };
     if let Some(value) = cell.value(alloc)? {
-        cells.put(name.copies(alloc)?, value)?;
+        cells.put(name.copy(alloc)?, value)?;
     }
     Ok(())
 }

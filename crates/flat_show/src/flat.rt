@@ -14,7 +14,7 @@ use crate::cells::{header_of, shown_cells};
 use crate::kept::kept_rows;
 use crate::placed::PlacedRows;
 use crate::places::place_of_row;
-use cell_core::{Listed, Memory, Schema, Steps};
+use cell_core::{Copies, Listed, Memory, Schema, Steps};
 use place_order::Place;
 use plan_types::Plan;
 use row_batch::Pair;
@@ -51,7 +51,7 @@ pub fn show_placed<L: Ledger>(
     ensures header { (opening : Opening) → IfOk result (λ shown. shown.header ≡ (view (side_of plan.now opening table.now)).header) }
     ensures rows { (opening : Opening) → IfOk result (λ shown. shown.rows ≡ placed (side_of plan.now opening table.now)) }
 {
-    let _table = table.size();
+    let _table = table.len();
     let header = header_of(alloc, table.schema(), plan)?;
     let kept = kept_rows(alloc, plan, table, steps)?;
     let by_place = placed_rows(alloc, table.schema(), plan, kept.as_slice())?;

@@ -22,7 +22,7 @@ pub fn kept_rows<L: Ledger>(
     ensures { IfOk result (λ rows. rows.items ≡ filter (is_kept plan.now) (map (full_pair plan.now) table.now.store.pairs)) }
 {
     let mut rows = Vec::new(alloc);
-    for i in 0..table.size() {
+    for i in 0..table.len() {
         keep_row(alloc, plan, table, i, &mut rows, steps)?;
     }
     Ok(rows)
@@ -56,7 +56,7 @@ fn keep_row<L: Ledger>(
 pub fn full_row(alloc: Global, plan: &Plan, row: &Row) -> Result<Row, Memory>
     ensures { IfOk result (λ full. full ≡ whole_row plan.now row.now) }
 {
-    let mut cells = row.copies(alloc)?;
+    let mut cells = row.copy(alloc)?;
     for expression in plan.expressions.as_slice() {
         cells.push(eval(alloc, &expression.tree, row)?)?;
     }

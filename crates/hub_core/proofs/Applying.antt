@@ -74,17 +74,17 @@ applied_gives before after version number kept was now past session port place s
     let here = (port_is past kept place h.ports lt).0 in
     let waits : ports.waiting past port ≡ p.queue.waiting = waits_is kept past place port h.ports lt at in
     let first : ports.waiting past port ≡ b ∷ drop 1 p.queue.waiting = waits ∙ first_and_rest p.queue.waiting b front in
-    let accepted : p.queue.accepted ≡ length (ports.accepted past port) = ap (λ q. q.queue.accepted) here ∙ ap (λ k. length (ports.accepted past k)) at in
-    let taken : p.queue.accepted - length p.queue.waiting ≡ ports.taken past port =
-    omega (arith, accepted, ap length waits, h.ports.within port, length-drop (ports.taken past port) (ports.accepted past port)) in
-    let one_more : seq ≡ ports.taken past port + 1 = omega (arith, seq_is, taken, h.ports.within port, accepted_le past port) in
+    let accepted : p.queue.accepted ≡ length (ports.batches_accepted past port) = ap (λ q. q.queue.accepted) here ∙ ap (λ k. length (ports.batches_accepted past k)) at in
+    let taken : p.queue.accepted - length p.queue.waiting ≡ ports.taken_count past port =
+    omega (arith, accepted, ap length waits, h.ports.within port, length-drop (ports.taken_count past port) (ports.batches_accepted past port)) in
+    let one_more : seq ≡ ports.taken_count past port + 1 = omega (arith, seq_is, taken, h.ports.within port, accepted_le past port) in
     let raised : number ≡ version + 1 = omega (arith, next, h.table.number, applied_le past) in
     let some : 0 < length p.queue.waiting = omega (arith, ap length (first_and_rest p.queue.waiting b front)) in
     let tests : first_refusal (without_port past port ∷ nothing_waits past port ∷ []) ≡ None =
     empty_is kept past place port h.ports lt at ∙ ap (λ e. first_refusal (refused_if e empty ∷ [])) (front_waits p.queue.waiting b front) in
     let plain : plain_in past session (ask.apply port) ≡ body.Applied port seq =
-    behind_table past (without_port past port ∷ nothing_waits past port ∷ []) (body.Applied port (ports.taken past port + 1)) (ap is_none h.table.schema)
-    ∙ passed (without_port past port ∷ nothing_waits past port ∷ []) [] (body.Applied port (ports.taken past port + 1)) tests
+    behind_table past (without_port past port ∷ nothing_waits past port ∷ []) (body.Applied port (ports.taken_count past port + 1)) (ap is_none h.table.schema)
+    ∙ passed (without_port past port ∷ nothing_waits past port ∷ []) [] (body.Applied port (ports.taken_count past port + 1)) tests
     ∙ ap (body.Applied port) (sym one_more) in
     let table : (n at_version : ℕ) → HoldsTable after number (with_step session (ask.apply port) n at_version (body.Applied port seq) past) =
     λ n at_version. rw raised (applied_table before after version past session (ask.apply port) n at_version port seq b (drop 1 p.queue.waiting) h.table first same put) in

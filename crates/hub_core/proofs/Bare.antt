@@ -103,7 +103,7 @@ fresh_holds t v past h store views =
       };
       ports = record {
         made = sym e.made;
-        live = sym (ap (λ n. map (port_by (ports.accepted past) (ports.taken past) (ports.is_closed past)) (filter (is_used_by (ports.accepted past) (ports.taken past) (ports.is_closed past)) (numbers_below n))) e.made);
+        live = sym (ap (λ n. map (port_by (ports.batches_accepted past) (ports.taken_count past) (ports.is_closed past)) (filter (is_used_by (ports.batches_accepted past) (ports.taken_count past) (ports.is_closed past)) (numbers_below n))) e.made);
         within = λ port. omega (arith, e.taken port);
         unmade = λ port le. (e.accepted port, e.closed port);
       };

@@ -60,11 +60,11 @@ live_after past now kept place p h lt same others here =
 
 accepted_here : (past : List PastStep) (session : ℕ) (request : Ask) (n version port seq : ℕ) (batch : Batch)
     → batch_asked (ports.schema past) request ≡ Some batch
-    → ports.accepted (with_step session request n version (body.Queued port seq) past) port ≡ ports.accepted past port ++ batch ∷ []
+    → ports.batches_accepted (with_step session request n version (body.Queued port seq) past) port ≡ ports.batches_accepted past port ++ batch ∷ []
 accepted_here past session request n version port seq batch asked = rw (eq-eqb port port refl, asked) refl
 
 accepted_else : (past : List PastStep) (session : ℕ) (request : Ask) (n version port seq p : ℕ) → (port ≡ p → ⊥)
-    → ports.accepted (with_step session request n version (body.Queued port seq) past) p ≡ ports.accepted past p
+    → ports.batches_accepted (with_step session request n version (body.Queued port seq) past) p ≡ ports.batches_accepted past p
 accepted_else past session request n version port seq p other = rw (ne_eqb port p other) refl
 
 abbrev port_data : ℕ → List Batch → ℕ → Bool → Port
@@ -81,15 +81,15 @@ queued_ports kept past session request n version place seq batch h lt is_open as
     let port = (port_at kept.live place).number in
     let now : List PastStep = with_step session request n version (body.Queued port seq) past in
     let was : port_at kept.live place ≡ kept_port past port = (port_is past kept place h lt).0 in
-    let here : ports.accepted now port ≡ ports.accepted past port ++ batch ∷ [] = accepted_here past session request n version port seq batch asked in
-    let apart : (q : ℕ) → (q ≡ port → ⊥) → ports.accepted now q ≡ ports.accepted past q =
+    let here : ports.batches_accepted now port ≡ ports.batches_accepted past port ++ batch ∷ [] = accepted_here past session request n version port seq batch asked in
+    let apart : (q : ℕ) → (q ≡ port → ⊥) → ports.batches_accepted now q ≡ ports.batches_accepted past q =
     λ q other. accepted_else past session request n version port seq q (λ e. other (sym e)) in
     let after : Port = port_of port (with_batch (port_at kept.live place).queue batch) in
     let waits : ports.waiting now port ≡ (port_at kept.live place).queue.waiting ++ batch ∷ [] =
-    ap (drop (ports.taken past port)) here ∙ drop-append-le (ports.taken past port) (ports.accepted past port) (batch ∷ []) (h.within port)
+    ap (drop (ports.taken_count past port)) here ∙ drop-append-le (ports.taken_count past port) (ports.batches_accepted past port) (batch ∷ []) (h.within port)
     ∙ ap (λ p. p.queue.waiting ++ batch ∷ []) (sym was) in
-    let count : length (ports.accepted now port) ≡ (port_at kept.live place).queue.accepted + 1 =
-    ap length here ∙ length-append (ports.accepted past port) (batch ∷ []) ∙ ap (λ p. p.queue.accepted + 1) (sym was) in
+    let count : length (ports.batches_accepted now port) ≡ (port_at kept.live place).queue.accepted + 1 =
+    ap length here ∙ length-append (ports.batches_accepted past port) (batch ∷ []) ∙ ap (λ p. p.queue.accepted + 1) (sym was) in
     let shut : ports.is_closed now port ≡ (port_at kept.live place).queue.closed = ap (λ p. p.queue.closed) (sym was) in
     let kept_here : kept_port now port ≡ after = same_port port _ _ _ _ _ _ waits count shut in
     let stays : is_live after ≡ true = rw is_open refl in
@@ -97,12 +97,12 @@ queued_ports kept past session request n version place seq batch h lt is_open as
       made = h.made;
       live = ap (λ b. with_one b kept.live place after) (sym stays)
           ∙ live_after past now kept place after h lt refl
-          (λ q other. same_port q _ _ _ _ _ _ (ap (drop (ports.taken past q)) (apart q other)) (ap length (apart q other)) refl) kept_here;
+          (λ q other. same_port q _ _ _ _ _ _ (ap (drop (ports.taken_count past q)) (apart q other)) (ap length (apart q other)) refl) kept_here;
       within = λ q.
-          elim (cases_eq port q) as (λ _. ports.taken past q ≤ length (ports.accepted now q)) [
+          elim (cases_eq port q) as (λ _. ports.taken_count past q ≤ length (ports.batches_accepted now q)) [
             | inl same ↦
-                let At : ℕ → Type 0 = λ x. ports.taken past x ≤ length (ports.accepted now x) in
-                subst At same (omega (arith, h.within port, ap length here, length-append (ports.accepted past port) (batch ∷ [])))
+                let At : ℕ → Type 0 = λ x. ports.taken_count past x ≤ length (ports.batches_accepted now x) in
+                subst At same (omega (arith, h.within port, ap length here, length-append (ports.batches_accepted past port) (batch ∷ [])))
             | inr other ↦ omega (arith, h.within q, ap length (apart q (λ e. other (sym e))))
           ];
       unmade = λ q le.
@@ -113,11 +113,11 @@ queued_ports kept past session request n version place seq batch h lt is_open as
 -- ---- a batch is applied
 
 taken_here : (past : List PastStep) (session : ℕ) (request : Ask) (n version port seq : ℕ)
-    → ports.taken (with_step session request n version (body.Applied port seq) past) port ≡ ports.taken past port + 1
+    → ports.taken_count (with_step session request n version (body.Applied port seq) past) port ≡ ports.taken_count past port + 1
 taken_here past session request n version port seq = rw (eq-eqb port port refl) refl
 
 taken_else : (past : List PastStep) (session : ℕ) (request : Ask) (n version port seq p : ℕ) → (port ≡ p → ⊥)
-    → ports.taken (with_step session request n version (body.Applied port seq) past) p ≡ ports.taken past p
+    → ports.taken_count (with_step session request n version (body.Applied port seq) past) p ≡ ports.taken_count past p
 taken_else past session request n version port seq p other = rw (ne_eqb port p other) refl
 
 pub applied_ports : (kept : PortsData) (past : List PastStep) (session : ℕ) (request : Ask) (n version place seq : ℕ)
@@ -127,12 +127,12 @@ applied_ports kept past session request n version place seq h lt some =
     let port = (port_at kept.live place).number in
     let now : List PastStep = with_step session request n version (body.Applied port seq) past in
     let was : port_at kept.live place ≡ kept_port past port = (port_is past kept place h lt).0 in
-    let here : ports.taken now port ≡ ports.taken past port + 1 = taken_here past session request n version port seq in
-    let apart : (q : ℕ) → (q ≡ port → ⊥) → ports.taken now q ≡ ports.taken past q =
+    let here : ports.taken_count now port ≡ ports.taken_count past port + 1 = taken_here past session request n version port seq in
+    let apart : (q : ℕ) → (q ≡ port → ⊥) → ports.taken_count now q ≡ ports.taken_count past q =
     λ q other. taken_else past session request n version port seq q (λ e. other (sym e)) in
     let after : Port = port_of port (without_first (port_at kept.live place).queue) in
     let waits : ports.waiting now port ≡ drop 1 (port_at kept.live place).queue.waiting =
-    ap (λ k. drop k (ports.accepted past port)) here ∙ sym (drop-drop 1 (ports.taken past port) (ports.accepted past port))
+    ap (λ k. drop k (ports.batches_accepted past port)) here ∙ sym (drop-drop 1 (ports.taken_count past port) (ports.batches_accepted past port))
     ∙ ap (λ p. drop 1 p.queue.waiting) (sym was) in
     let kept_here : kept_port now port ≡ after =
     same_port port _ _ _ _ _ _ waits (ap (λ p. p.queue.accepted) (sym was)) (ap (λ p. p.queue.closed) (sym was)) in
@@ -140,12 +140,12 @@ applied_ports kept past session request n version place seq h lt some =
       made = h.made;
       live = settled_is kept.live place after lt
           ∙ live_after past now kept place after h lt refl
-          (λ q other. same_port q _ _ _ _ _ _ (ap (λ k. drop k (ports.accepted past q)) (apart q other)) refl refl) kept_here;
+          (λ q other. same_port q _ _ _ _ _ _ (ap (λ k. drop k (ports.batches_accepted past q)) (apart q other)) refl refl) kept_here;
       within = λ q.
-          elim (cases_eq port q) as (λ _. ports.taken now q ≤ length (ports.accepted past q)) [
+          elim (cases_eq port q) as (λ _. ports.taken_count now q ≤ length (ports.batches_accepted past q)) [
             | inl same ↦
-                let At : ℕ → Type 0 = λ x. ports.taken now x ≤ length (ports.accepted past x) in
-                subst At same (omega (arith, here, some, ap (λ p. length p.queue.waiting) was, length-drop (ports.taken past port) (ports.accepted past port)))
+                let At : ℕ → Type 0 = λ x. ports.taken_count now x ≤ length (ports.batches_accepted past x) in
+                subst At same (omega (arith, here, some, ap (λ p. length p.queue.waiting) was, length-drop (ports.taken_count past port) (ports.batches_accepted past port)))
             | inr other ↦ omega (arith, h.within q, apart q (λ e. other (sym e)))
           ];
       unmade = h.unmade;
@@ -204,7 +204,7 @@ made_ports kept past session request n version port h =
     let next = ports.ports past in
     let bare = h.unmade next (omega arith) in
     let used : ports.is_used past next ≡ true = rw bare.1 refl in
-    let waits : ports.waiting past next ≡ [] = ap (drop (ports.taken past next)) bare.0 ∙ drop-none (ports.taken past next) in
+    let waits : ports.waiting past next ≡ [] = ap (drop (ports.taken_count past next)) bare.0 ∙ drop-none (ports.taken_count past next) in
     let fresh : kept_port past next ≡ port_of kept.made empty_queue =
     same_port next _ _ _ _ _ _ waits (ap length bare.0) bare.1 ∙ ap (λ k. port_of k empty_queue) (sym h.made) in
     record {

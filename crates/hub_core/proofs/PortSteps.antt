@@ -73,8 +73,8 @@ pub queued_gives : (t : TableData) (version : ℕ) (kept : PortsData) (v : Views
     → batch_asked (ports.schema past) request ≡ Some b → seq ≡ (port_at kept.live place).queue.accepted + 1 → plain_in past session request ≡ queued past port
     → Gives past session request (body.Queued port seq) (HoldsParts t version (record kept { live = put_on kept.live place b }) v)
 queued_gives t version kept v past session port place seq request b h lt number is_open asked next plain =
-    let count : (port_at kept.live place).queue.accepted ≡ length (ports.accepted past port) =
-    ap (λ p. p.queue.accepted) (port_is past kept place h.ports lt).0 ∙ ap (λ k. length (ports.accepted past k)) number in
+    let count : (port_at kept.live place).queue.accepted ≡ length (ports.batches_accepted past port) =
+    ap (λ p. p.queue.accepted) (port_is past kept place h.ports lt).0 ∙ ap (λ k. length (ports.batches_accepted past k)) number in
     record {
       given = plain_given past session request (body.Queued port seq) refl (plain ∙ ap (body.Queued port) (sym (next ∙ ap (λ k. k + 1) count)));
       holds = λ n at. record {

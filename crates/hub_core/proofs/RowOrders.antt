@@ -19,7 +19,7 @@ use Rattle.row_batch.specs.declared.batch.Pair.{Pair}
 use Rattle.row_batch.proofs.Keys.{KeepsKeys, batch_keeps}
 use Rattle.row_batch.proofs.Steps.{distinct_reordered, order_does_not_matter}
 use Rattle.hub_spec.specs.Past.{PastStep}
-use Rattle.hub_spec.specs.Ports.{Applied, applied}
+use Rattle.hub_spec.specs.Ports.{Applied, batches_applied}
 use Rattle.hub_spec.specs.Room.{different, rows_of_all}
 use Rattle.hub_spec.specs.Rows.{schema_or_none, put_applied, store}
 use Rattle.table_core.specs.Tables.{TableData, IsStill}
@@ -77,7 +77,7 @@ keyed schema s (a ∷ done) h = keyed schema (put_batch schema s a.batch) done (
 
 -- no key stands twice, and running numbers were given before
 pub store_keyed : (past : List PastStep) → KeepsKeys (schema_or_none past).keeping (store past)
-store_keyed past = keyed (schema_or_none past) empty_store (applied past) (none_keyed (schema_or_none past).keeping)
+store_keyed past = keyed (schema_or_none past) empty_store (batches_applied past) (none_keyed (schema_or_none past).keeping)
 
 -- ---- the same rows in another order
 

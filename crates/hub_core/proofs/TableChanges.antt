@@ -10,7 +10,7 @@ use Rattle.frame_types.specs.Asks.{Ask}
 use Rattle.frame_types.specs.declared.reply.Body.TheVariants as body
 use Rattle.hub_spec.specs.Past.{PastStep}
 use Rattle.hub_spec.specs.Giving.{with_step}
-use Rattle.hub_spec.specs.Ports.{Applied, waiting, taken, applied, with_first}
+use Rattle.hub_spec.specs.Ports.{Applied, waiting, taken_count, batches_applied, with_first}
 use Rattle.hub_spec.specs.Rows.{no_schema, schema_or_none, put_applied, store}
 use Rattle.table_core.specs.Tables.{IsStill, TableData}
 use Rattle.hub_views.specs.Tables.{HoldsTable}
@@ -30,17 +30,17 @@ pub applied_table : (before after : TableData) (number : ℕ) (past : List PastS
     → after.schema ≡ before.schema → IsReordered (put_batch before.schema before.store batch) after.store
     → HoldsTable after (number + 1) (with_step session request n version (body.Applied port seq) past)
 applied_table before after number past session request n version port seq batch rest h first same put =
-    let this : Applied = record { port = port; seq = taken past port + 1; batch = batch } in
+    let this : Applied = record { port = port; seq = taken_count past port + 1; batch = batch } in
     let now : List PastStep = with_step session request n version (body.Applied port seq) past in
-    let done : with_first (waiting past port) port (taken past port + 1) (applied past) ≡ applied past ++ this ∷ [] =
-    first_of_waiting (waiting past port) batch rest port (taken past port + 1) (applied past) first in
+    let done : with_first (waiting past port) port (taken_count past port + 1) (batches_applied past) ≡ batches_applied past ++ this ∷ [] =
+    first_of_waiting (waiting past port) batch rest port (taken_count past port + 1) (batches_applied past) first in
     let made : schema_or_none past ≡ before.schema = ap (λ o. unwrap_or o no_schema) h.schema in
-    let led : store now ≡ put_batch before.schema (store past) batch = rw (done, h.schema) (put_first before.schema (applied past) this) in
+    let led : store now ≡ put_batch before.schema (store past) batch = rw (done, h.schema) (put_first before.schema (batches_applied past) this) in
     let keyed : KeepsKeys before.schema.keeping (store past) = subst (λ s. KeepsKeys s.keeping (store past)) made (store_keyed past) in
     record {
       schema = h.schema ∙ ap Some (sym same);
       rows = subst (λ s. IsReordered s after.store) (sym led) (reordered_more before.schema batch (store past) before.store after.store keyed h.rows put);
-      number = rw done (ap (λ v. v + 1) h.number ∙ sym (length-append (applied past) (this ∷ [])));
+      number = rw done (ap (λ v. v + 1) h.number ∙ sym (length-append (batches_applied past) (this ∷ [])));
     }
 
 -- the table stays that of the history where more room was made for its rows

@@ -25,7 +25,7 @@ port_by accepts takes closes port =
     port_of port (record { waiting = drop (takes port) (accepts port); accepted = length (accepts port); closed = closes port })
 
 abbrev pub kept_port : List PastStep → ℕ → Port
-kept_port past = port_by (ports.accepted past) (ports.taken past) (ports.is_closed past)
+kept_port past = port_by (ports.batches_accepted past) (ports.taken_count past) (ports.is_closed past)
 
 abbrev pub is_used_by : (ℕ → List Batch) → (ℕ → ℕ) → (ℕ → Bool) → ℕ → Bool
 is_used_by accepts takes closes port = not (closes port) || nat_lt 0 (length (drop (takes port) (accepts port)))
@@ -38,7 +38,7 @@ pub record KeepsPorts (kept : PortsData) (count : ℕ) (accepts : ℕ → List B
   pub unmade : (port : ℕ) → count ≤ port → (accepts port ≡ []) × (closes port ≡ false)
 
 abbrev pub HoldsPorts : PortsData → List PastStep → Type 0
-HoldsPorts kept past = KeepsPorts kept (ports.ports past) (ports.accepted past) (ports.taken past) (ports.is_closed past)
+HoldsPorts kept past = KeepsPorts kept (ports.ports past) (ports.batches_accepted past) (ports.taken_count past) (ports.is_closed past)
 
 -- ---- a table with its ports and views
 
@@ -66,7 +66,7 @@ pub record IsEmpty (done : List Applied) (count : ℕ) (accepts : ℕ → List B
 abbrev pub HoldsSchema : Option SchemaData → List PastStep → Type 0
 HoldsSchema made past =
     (ports.schema past ≡ made)
-    × IsEmpty (ports.applied past) (ports.ports past) (ports.accepted past) (ports.taken past) (ports.is_closed past) (held.views past) (held.opened past)
+    × IsEmpty (ports.batches_applied past) (ports.ports past) (ports.batches_accepted past) (ports.taken_count past) (ports.is_closed past) (held.views past) (held.opened_count past)
 
 -- ---- a machine
 

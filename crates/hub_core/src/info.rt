@@ -28,7 +28,7 @@ impl Engine {
             columns,
             index,
             limit: limit_of(schema),
-            size: self.table.size() as u64,
+            size: self.table.len() as u64,
             waiting: self.ports.batches_waiting(),
         })
     }
@@ -49,7 +49,7 @@ fn words_of(alloc: Global, column: &Column) -> Result<ColumnWords, Memory>
     ensures { IfOk result (λ words. words ≡ answers.column_words column.now) }
 {
     Ok(ColumnWords {
-        name: column.name.copies(alloc)?,
+        name: column.name.copy(alloc)?,
         kind: Text::from_str(alloc, column.kind.name())?,
     })
 }
@@ -59,7 +59,7 @@ fn index_name(alloc: Global, schema: &Schema) -> Result<Option<Text>, Memory>
     ensures { IfOk result (λ name. name ≡ answers.index_name schema.now schema.now.keeping) }
 {
     match schema.keeping() {
-        Keeping::Indexed(column) => Ok(Some(schema.name(column).copies(alloc)?)),
+        Keeping::Indexed(column) => Ok(Some(schema.name(column).copy(alloc)?)),
         Keeping::Limited(_) | Keeping::Free => Ok(None),
     }
 }

@@ -23,7 +23,7 @@ impl LocalCaller {
     ghost use Rattle.std.specs.Prelude.{◌≡◌};
     ghost use Rattle.hub_core.specs.Callers.{hub_of};
 
-    pub fn make(hub: Hub) -> LocalCaller
+    pub fn new(hub: Hub) -> LocalCaller
         ensures { hub_of result ≡ hub }
     {
         LocalCaller { hub }

@@ -9,7 +9,7 @@ ghost use Rattle.hub_spec.specs.Room.{different, keys_put};
 ghost use Rattle.hub_core.specs.Rooms.{IsCounted, over, room_taken};
 
 use crate::engine::Engine;
-use cell_core::{Cell, Keeping, MAX_ROWS, Memory, Steps};
+use cell_core::{Cell, Copies, Keeping, MAX_ROWS, Memory, Steps};
 use port_queue::PortQueue;
 use row_batch::{Batch, Patch, PatchCell};
 use std::alloc::Global;
@@ -30,7 +30,7 @@ impl Engine {
     ) -> Result<Option<u64>, Memory>
         ensures { IfOk result (λ would. would ≡ over (room_taken self.now.table self.now.ports batch.now)) }
     {
-        let rows = self.table.size() as u64;
+        let rows = self.table.len() as u64;
         let Some(all) = sum_of(rows, self.ports.rows_waiting(), batch.rows() as u64) else {
             return Err(Memory);
         };
@@ -55,7 +55,7 @@ impl Engine {
             ≡ over (different (keys_of_rows self.now.table.store.pairs ++ flat_map (keys_put column) (waiting_on self.now.ports.live ++ batch.now ∷ [])))) }
     {
         let table = &self.table;
-        let rows = table.size() as u64;
+        let rows = table.len() as u64;
         let mut found = NewKeys::new(self.alloc);
         for port in self.ports.as_slice() {
             note_queue(table, column, &port.queue, self.alloc, &mut found, steps)?;

@@ -6,7 +6,7 @@ use Rattle.frame_types.specs.Asks.{Ask}
 use Rattle.frame_types.specs.declared.reply.Body.{Body}
 use Rattle.frame_types.specs.declared.reply.Body.TheVariants as body
 use Rattle.hub_spec.specs.Past.{PastStep, times}
-use Rattle.hub_spec.specs.Ports.{Applied, schema, accepted, applied, with_batch, with_queued, with_first, with_applied}
+use Rattle.hub_spec.specs.Ports.{Applied, schema, batches_accepted, batches_applied, with_batch, with_queued, with_first, with_applied}
 use Rattle.hub_spec.specs.Reading.{batch_asked}
 
 pub times_le : (test : PastStep → Bool) (past : List PastStep) → times test past ≤ length past
@@ -29,10 +29,10 @@ queued_le made port (body.Queued at seq) request batches =
     ]
 queued_le made port _ request batches = omega arith
 
-pub accepted_le : (past : List PastStep) (port : ℕ) → length (accepted past port) ≤ length past
+pub accepted_le : (past : List PastStep) (port : ℕ) → length (batches_accepted past port) ≤ length past
 accepted_le [] port = omega arith
 accepted_le (d ∷ past) port =
-    omega (arith, queued_le (schema past) port d.reply.body d.request (accepted past port), accepted_le past port)
+    omega (arith, queued_le (schema past) port d.reply.body d.request (batches_accepted past port), accepted_le past port)
 
 first_le : (batches : List Batch) (port seq : ℕ) (done : List Applied) → length (with_first batches port seq done) ≤ length done + 1
 first_le [] port seq done = omega arith
@@ -44,6 +44,6 @@ with_applied_le past (body.Applied port seq) done = first_le _ _ _ done
 with_applied_le past (body.AppliedLosing lost port seq) done = first_le _ _ _ done
 with_applied_le past _ done = omega arith
 
-pub applied_le : (past : List PastStep) → length (applied past) ≤ length past
+pub applied_le : (past : List PastStep) → length (batches_applied past) ≤ length past
 applied_le [] = omega arith
-applied_le (d ∷ past) = omega (arith, with_applied_le past d.reply.body (applied past), applied_le past)
+applied_le (d ∷ past) = omega (arith, with_applied_le past d.reply.body (batches_applied past), applied_le past)

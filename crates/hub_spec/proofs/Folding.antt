@@ -28,10 +28,10 @@ use Rattle.plain_view.specs.Touching.{PlacedRow, head_touched, key_of, placed, t
 use Rattle.plain_view.proofs.TouchLaws.{IsSorted, sorted_view, sorted_nothing, touched_agree, touched_keys-itself, head_touched-exact, head_touched-itself, delta_restores}
 use Rattle.hub_spec.specs.Past.{PastStep}
 use Rattle.hub_spec.specs.Bases.{base, base_or_none, delta_in, dirty, edit_by, fold_in, folded_after, folded_in, head_dirty, is_base, mark_in, no_base, placed_in, shown_by, shown_in, tells_of}
-use Rattle.hub_spec.specs.HeldViews.{HeldView, held, is_view, lost_at, opened_view, views, with_view}
+use Rattle.hub_spec.specs.HeldViews.{HeldView, held_view, is_view, lost_at, opened_view, views, with_view}
 use Rattle.hub_spec.specs.Histories.{Entry, past_of, answer_to}
 use Rattle.hub_spec.specs.Laws.{DeltasFold}
-use Rattle.hub_spec.specs.Ports.{Applied, applied, version_after}
+use Rattle.hub_spec.specs.Ports.{Applied, batches_applied, version_after}
 use Rattle.hub_spec.specs.Rows.{put_applied, rows, schema_or_none}
 use Rattle.hub_spec.proofs.Said.{Says, says_answer}
 
@@ -42,7 +42,7 @@ keys_kept schema s [] h = h
 keys_kept schema s (a ∷ done) h = keys_kept schema (put_applied schema s a) done (batch_keeps schema s a.batch h.0 h.1)
 
 pub distinct_rows : (past : List PastStep) → AreDistinct (keys_of_rows (rows past))
-distinct_rows past = (keys_kept (schema_or_none past) empty_store (applied past) (tt, empty_is_counted (schema_or_none past).keeping)).0
+distinct_rows past = (keys_kept (schema_or_none past) empty_store (batches_applied past) (tt, empty_is_counted (schema_or_none past).keeping)).0
 
 -- ---- what a view shows
 
@@ -120,8 +120,8 @@ step session request n at answer = record { session = session; request = request
 
 -- a view that is held was held before, or has its base in this step
 held_before : (past : List PastStep) (session n at : ℕ) (request : Ask) (answer : Body) (s number : ℕ)
-    → is_some (held (step session request n at answer ∷ past) s number) ≡ true
-    → (is_base s number (step session request n at answer) ≡ true) ⊎ (is_some (held past s number) ≡ true)
+    → is_some (held_view (step session request n at answer ∷ past) s number) ≡ true
+    → (is_base s number (step session request n at answer) ≡ true) ⊎ (is_some (held_view past s number) ≡ true)
 held_before past session n at (ask.open_view plan bound) (body.Opened edit shown view) s number h =
     let found = sym (has_is_any (is_view s number) (views past ++ opened_view session view plan bound ∷ [])) ∙ h in
     let parts = or_cases (list_any (is_view s number) (views past)) (is_view s number (opened_view session view plan bound))
@@ -180,7 +180,7 @@ edit_of_found test (v ∷ vs) all = by (test v) (edit_of_found test vs (All-tail
     by true later = All-head IsUnedited v vs all
     by false later = later
 
-pub no_edit : (past : List PastStep) (s number : ℕ) → edit_by (held past s number) ≡ 0
+pub no_edit : (past : List PastStep) (s number : ℕ) → edit_by (held_view past s number) ≡ 0
 no_edit past s number = edit_of_found (is_view s number) (views past) (unedited past)
 
 -- ---- what holds of a view after each step
@@ -230,12 +230,12 @@ sorted_base [] s number = sorted_nothing
 sorted_base (d ∷ past) s number = by (is_base s number d) refl (sorted_base past s number)
   where
     by : (b : Bool) → is_base s number d ≡ b → IsSorted (base_or_none past s number).shown → IsSorted (base_or_none (d ∷ past) s number).shown
-    by true here before = rw here (sorted_by_view (d ∷ past) (held (d ∷ past) s number))
+    by true here before = rw here (sorted_by_view (d ∷ past) (held_view (d ∷ past) s number))
     by false other before = rw other before
 
 pub record Kept (past : List PastStep) (s number : ℕ) : Type 0 where
   pub folds : folded_in past s number ≡ base past s number
-  pub based : is_some (held past s number) ≡ true → is_some (base past s number) ≡ true
+  pub based : is_some (held_view past s number) ≡ true → is_some (base past s number) ≡ true
 
 same_held : (a b : Shown) (v w e f : ℕ) → a ≡ b → v ≡ w → e ≡ f
     → let x : Held = record { shown = a; mark = record { version = v; edit = e } } in x ≡ record { shown = b; mark = record { version = w; edit = f } }
@@ -250,12 +250,12 @@ based_at past s number some = by (base past s number) some
     by (Some held) h = refl
 
 -- a delta that is taken folds into the base
-delta_folds : (past : List PastStep) (s number : ℕ) → is_some (held past s number) ≡ true → Kept past s number
+delta_folds : (past : List PastStep) (s number : ℕ) → is_some (held_view past s number) ≡ true → Kept past s number
     → option_and_then (fold_in (delta_in past s number)) (folded_in past s number) ≡ Some (record { shown = shown_in past s number; mark = mark_in past s number })
 delta_folds past s number some kept =
     let was : Held = base_or_none past s number in
     let restored = delta_restores was.shown (shown_in past s number) (dirty past s number) (head_dirty past s number) was.mark (mark_in past s number)
-    (sorted_base past s number) (sorted_by_view past (held past s number)) (agree_since past s number) (headers_since past s number) in
+    (sorted_base past s number) (sorted_by_view past (held_view past s number)) (agree_since past s number) (headers_since past s number) in
     let now : folded_in past s number ≡ Some was = kept.folds ∙ based_at past s number (kept.based some) in
     rw now (rw restored.0 (ap Some restored.1))
 
@@ -267,19 +267,19 @@ folds_base : (past : List PastStep) (s n at number : ℕ) (request : Ask) (answe
 folds_base past s n at number (ask.open_view plan bound) (body.Opened edit shown view) says version here kept =
     let after = step s (ask.open_view plan bound) n at (body.Opened edit shown view) ∷ past in
     let ours : is_view s number (opened_view s view plan bound) ≡ true = rw (eq-eqb s s refl, here) refl in
-    let some : is_some (held after s number) ≡ true =
+    let some : is_some (held_view after s number) ≡ true =
     has_is_any (is_view s number) (views after) ∙ any_more (is_view s number) (views past) (opened_view s view plan bound)
     ∙ or_right (list_any (is_view s number) (views past)) _ ours in
-    let all : shown_in after s number ≡ flat_view (schema_or_none past) (rows past) = shown_of_some after (held after s number) some in
+    let all : shown_in after s number ≡ flat_view (schema_or_none past) (rows past) = shown_of_some after (held_view after s number) some in
     rw here (ap Some (same_held _ _ _ _ _ _ (says.2 ∙ sym all) version (says.1 ∙ sym (no_edit after s number))))
 folds_base past s n at number _ (body.Opened edit shown view) says version here kept = absurd says.0
 folds_base past s n at number request (body.Resync bound edit shown view) says version here kept =
     let same : view ≡ number = eqb-true view number here in
-    rw here (ap Some (same_held _ _ _ _ _ _ (says.1 ∙ ap (λ i. shown_in past s i) same) version (says.0 ∙ ap (λ i. edit_by (held past s i)) same)))
+    rw here (ap Some (same_held _ _ _ _ _ _ (says.1 ∙ ap (λ i. shown_in past s i) same) version (says.0 ∙ ap (λ i. edit_by (held_view past s i)) same)))
 folds_base past s n at number request (body.Delta delta view) says version here kept =
     let same : view ≡ number = eqb-true view number here in
     let is : delta ≡ delta_in past s number = says.1 ∙ ap (λ i. delta_in past s i) same in
-    let some : is_some (held past s number) ≡ true = ap (λ i. is_some (held past s i)) (sym same) ∙ says.0 in
+    let some : is_some (held_view past s number) ≡ true = ap (λ i. is_some (held_view past s i)) (sym same) ∙ says.0 in
     rw (here, is) (delta_folds past s number some kept)
 folds_base past s n at number request _ says version here kept = absurd (let wrong : false ≡ true = here in cc)
 

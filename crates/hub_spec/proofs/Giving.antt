@@ -15,10 +15,10 @@ use Rattle.frame_types.specs.declared.reply.Body.{Body}
 use Rattle.frame_types.specs.declared.reply.Body.TheVariants as body
 use Rattle.frame_types.specs.declared.reply.Refusal.{Refusal}
 use Rattle.hub_spec.specs.Past.{PastStep}
-use Rattle.hub_spec.specs.Answers.{first_of, refused_if, refusals, granted, without_table, faulty_schema, faulty_rows, full_table_for, lost_view, take_answer, window_of}
+use Rattle.hub_spec.specs.Answers.{first_of, refused_if, refusals, grant, without_table, faulty_schema, faulty_rows, full_table_for, lost_view, take_answer, window_of}
 use Rattle.hub_spec.specs.Bases.{delta_in, dirty}
 use Rattle.hub_spec.specs.Giving.{IsGiven, body_in, plain_in}
-use Rattle.hub_spec.specs.HeldViews.{HeldView, held, shown}
+use Rattle.hub_spec.specs.HeldViews.{HeldView, held_view, shown}
 use Rattle.hub_spec.specs.Histories.{choice_of, plenty, want, may_choose, takes_none}
 use Rattle.hub_spec.specs.Ports.{schema as schema_made}
 use Rattle.hub_spec.specs.Reading.{read_batch, batch_asked}
@@ -83,10 +83,10 @@ first_wants request (None ∷ checks) grants goes all last = first_wants request
 first_wants request (Some why ∷ checks) grants goes all last = goes why ∙ all.0
 
 wants_behind : (past : List PastStep) (session : ℕ) (request : Ask) (checks : List (Option Refusal)) → refusals past session request ≡ without_table past ∷ checks
-    → GoesByCode request → AllMayWant checks → takes_none request (granted past session request) ≡ false → is_none (schema_made past) ≡ false
+    → GoesByCode request → AllMayWant checks → takes_none request (grant past session request) ≡ false → is_none (schema_made past) ≡ false
     → may_choose past request want (plain_in past session request) ≡ true
 wants_behind past session request checks are goes all last made =
-    let grants : Body = granted past session request in
+    let grants : Body = grant past session request in
     ap (λ (list : List (Option Refusal)). not (takes_none request (first_of list grants))) are
     ∙ ap (λ b. not (takes_none request (first_of (refused_if b no_table ∷ checks) grants))) made
     ∙ ap not (first_wants request checks grants goes all last)
@@ -138,8 +138,8 @@ may_want past session (ask.open_view plan bound) takes made =
     wants_behind past session (ask.open_view plan bound) _ refl (λ why. refl) (if_wants _ _ refl, (if_wants _ _ refl, tt)) refl made
 may_want past session (ask.take view wait) takes made =
     wants_behind past session (ask.take view wait) _ refl (λ why. refl) (if_wants _ _ refl, (lost_wants _, tt))
-    (taken_wants past session view wait (held past session view)) made
+    (taken_wants past session view wait (held_view past session view)) made
 may_want past session (ask.rows view first end) takes made =
     wants_behind past session (ask.rows view first end) _ refl (λ why. refl) (if_wants _ _ refl, (lost_wants _, (if_wants _ _ refl, tt)))
-    (window_wants past view first end (held past session view)) made
+    (window_wants past view first end (held_view past session view)) made
 may_want past session _ takes made = absurd (let wrong : true ≡ false = takes in cc)

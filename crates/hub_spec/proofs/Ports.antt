@@ -51,7 +51,7 @@ pub record Kept (port : ℕ) (done : List Applied) (taken : ℕ) (accepted : Lis
   pub within : taken ≤ length accepted
 
 abbrev pub KeptIn : List PastStep → ℕ → Type 0
-KeptIn past port = Kept port (history.applied past) (history.taken past port) (history.accepted past port)
+KeptIn past port = Kept port (history.batches_applied past) (history.taken_count past port) (history.batches_accepted past port)
 
 kept_queued : (here : Bool) (b : Option Batch) (port taken : ℕ) (done : List Applied) (accepted : List Batch) → Kept port done taken accepted
     → Kept port done taken (cond here (with_batch b accepted) accepted)
@@ -88,17 +88,17 @@ kept_applied_there port at seq taken done (b ∷ rest) accepted there kept =
     }
 
 kept_applied : (past : List PastStep) (at port : ℕ) (here : Bool) → eqb at port ≡ here → eqb (length (history.waiting past at)) 0 ≡ false → KeptIn past port
-    → Kept port (with_first (history.waiting past at) at (history.taken past at + 1) (history.applied past)) (cond here (history.taken past port + 1) (history.taken past port)) (history.accepted past port)
+    → Kept port (with_first (history.waiting past at) at (history.taken_count past at + 1) (history.batches_applied past)) (cond here (history.taken_count past port + 1) (history.taken_count past port)) (history.batches_accepted past port)
 kept_applied past at port false is some kept =
-    kept_applied_there port at (history.taken past at + 1) (history.taken past port) (history.applied past) (history.waiting past at) (history.accepted past port) is kept
+    kept_applied_there port at (history.taken_count past at + 1) (history.taken_count past port) (history.batches_applied past) (history.waiting past at) (history.batches_accepted past port) is kept
 kept_applied past at port true is some kept =
-    rw (eqb-true at port is) (kept_applied_here port port (history.taken past port) (history.applied past) (history.waiting past port) (history.accepted past port)
+    rw (eqb-true at port is) (kept_applied_here port port (history.taken_count past port) (history.batches_applied past) (history.waiting past port) (history.batches_accepted past port)
     (rw (eqb-true at port is) at is) refl (rw (eqb-true at port is) at some) kept)
 
 kept_step : (past : List PastStep) (session n version : ℕ) (request : Ask) (answer : Body) (port : ℕ) → Says past session request answer → KeptIn past port
     → KeptIn (record { session = session; request = request; reply = record { n = n; version = version; body = answer } } ∷ past) port
 kept_step past session n version request (body.Queued at seq) port says kept =
-    kept_queued (eqb at port) (batch_asked (history.schema past) request) port (history.taken past port) (history.applied past) (history.accepted past port) kept
+    kept_queued (eqb at port) (batch_asked (history.schema past) request) port (history.taken_count past port) (history.batches_applied past) (history.batches_accepted past port) kept
 kept_step past session n version request (body.Applied at seq) port says kept = kept_applied past at port (eqb at port) refl says kept
 kept_step past session n version request (body.AppliedLosing lost at seq) port says kept = kept_applied past at port (eqb at port) refl says kept
 kept_step past session n version request _ port says kept = kept
@@ -115,7 +115,7 @@ kept limit (e ∷ h) port =
 pub applied_then_waiting : AppliedThenWaiting
 applied_then_waiting limit h port =
     let past = past_of limit h in
-    ap (λ bs. bs ++ history.waiting past port) (kept limit h port).batches ∙ take-append-drop (history.taken past port) (history.accepted past port)
+    ap (λ bs. bs ++ history.waiting past port) (kept limit h port).batches ∙ take-append-drop (history.taken_count past port) (history.batches_accepted past port)
 
 pub applied_in_order : AppliedInOrder
 applied_in_order limit h port = (kept limit h port).seqs
@@ -126,4 +126,4 @@ fold_batches f g s (x ∷ xs) = fold_batches f g (f s (g x)) xs
 
 pub rows_are_applied : RowsAreApplied
 rows_are_applied past =
-    ap (λ (s : Store). s.pairs) (fold_batches (put_batch (schema_or_none past)) (λ (a : Applied). a.batch) empty_store (history.applied past))
+    ap (λ (s : Store). s.pairs) (fold_batches (put_batch (schema_or_none past)) (λ (a : Applied). a.batch) empty_store (history.batches_applied past))

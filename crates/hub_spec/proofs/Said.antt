@@ -9,9 +9,9 @@ use Rattle.frame_types.specs.declared.reply.Body.TheVariants as body
 use Rattle.frame_types.specs.declared.reply.Refusal.{Refusal}
 use Rattle.plain_view.specs.Flat.{flat_view}
 use Rattle.hub_spec.specs.Past.{PastStep}
-use Rattle.hub_spec.specs.Answers.{first_of, refused_if, refusals, granted, plain, take_answer, window_of}
+use Rattle.hub_spec.specs.Answers.{first_of, refused_if, refusals, grant, plain, take_answer, window_of}
 use Rattle.hub_spec.specs.Bases.{delta_in, edit_by, shown_by}
-use Rattle.hub_spec.specs.HeldViews.{HeldView, held, shown}
+use Rattle.hub_spec.specs.HeldViews.{HeldView, held_view, shown}
 use Rattle.hub_spec.specs.Histories.{Choice, plenty, want, losing, answer_under, losing_in}
 use Rattle.hub_spec.specs.Ports.{waiting}
 use Rattle.hub_spec.specs.Rows.{schema_or_none, rows}
@@ -26,9 +26,9 @@ abbrev pub Says : List PastStep → ℕ → Ask → Body → Type 0
 Says past session request (body.Applied port seq) = eqb (length (waiting past port)) 0 ≡ false
 Says past session request (body.AppliedLosing lost port seq) = eqb (length (waiting past port)) 0 ≡ false
 Says past session request (body.Opened edit shown view) = IsOpening request × (edit ≡ 0) × (shown ≡ flat_view (schema_or_none past) (rows past))
-Says past session request (body.Delta delta view) = (is_some (held past session view) ≡ true) × (delta ≡ delta_in past session view)
+Says past session request (body.Delta delta view) = (is_some (held_view past session view) ≡ true) × (delta ≡ delta_in past session view)
 Says past session request (body.Resync bound edit shown view) =
-    (edit ≡ edit_by (held past session view)) × (shown ≡ shown_by past (held past session view))
+    (edit ≡ edit_by (held_view past session view)) × (shown ≡ shown_by past (held_view past session view))
 Says past session request _ = Unit {0}
 
 abbrev pub NoneRefuses : List (Option Refusal) → Type 0
@@ -50,21 +50,21 @@ says_window : (past : List PastStep) (session : ℕ) (request : Ask) (v : Option
 says_window past session request None view first end = tt
 says_window past session request (Some v) view first end = tt
 
-says_within : (past : List PastStep) (session view : ℕ) (request : Ask) (v : HeldView) (within : Bool) → held past session view ≡ Some v
+says_within : (past : List PastStep) (session view : ℕ) (request : Ask) (v : HeldView) (within : Bool) → held_view past session view ≡ Some v
     → Says past session request (if within then body.Delta (delta_in past session view) view else body.Resync v.bound v.edit (shown past v) view)
 says_within past session view request v true is = (rw is refl, refl)
 says_within past session view request v false is = (rw is refl, rw is refl)
 
-says_taken : (past : List PastStep) (session view : ℕ) (request : Ask) (v : Option HeldView) → held past session view ≡ v
+says_taken : (past : List PastStep) (session view : ℕ) (request : Ask) (v : Option HeldView) → held_view past session view ≡ v
     → Says past session request (take_answer past session view v)
 says_taken past session view request None is = tt
 says_taken past session view request (Some v) is = says_within past session view request v _ is
 
-says_granted : (past : List PastStep) (session : ℕ) (request : Ask) → NoneRefuses (refusals past session request) → Says past session request (granted past session request)
+says_granted : (past : List PastStep) (session : ℕ) (request : Ask) → NoneRefuses (refusals past session request) → Says past session request (grant past session request)
 says_granted past session (ask.apply port) none = not_refused (eqb (length (waiting past port)) 0) empty none.1.1.0
 says_granted past session (ask.open_view plan bound) none = (tt, refl, refl)
-says_granted past session (ask.take view wait) none = says_taken past session view (ask.take view wait) (held past session view) refl
-says_granted past session (ask.rows view first end) none = says_window past session (ask.rows view first end) (held past session view) view first end
+says_granted past session (ask.take view wait) none = says_taken past session view (ask.take view wait) (held_view past session view) refl
+says_granted past session (ask.rows view first end) none = says_window past session (ask.rows view first end) (held_view past session view) view first end
 says_granted past session _ none = tt
 
 says_losing : (past : List PastStep) (session : ℕ) (request : Ask) (lost : List (ℕ × ℕ)) (answer : Body) → Says past session request answer
@@ -83,4 +83,4 @@ pub says_answer : (limit : ℕ) (past : List PastStep) (session : ℕ) (request 
 says_answer limit past session request choice =
     let checks : List (Option Refusal) = refused_if (leb limit (length past)) (history_full limit) ∷ refusals past session request in
     says_chosen past session request choice (plain limit past session request)
-    (says_first past session request checks (granted past session request) (λ (none : NoneRefuses checks). says_granted past session request none.1))
+    (says_first past session request checks (grant past session request) (λ (none : NoneRefuses checks). says_granted past session request none.1))

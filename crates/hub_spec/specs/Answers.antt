@@ -24,9 +24,9 @@ use Rattle.plain_view.specs.Flat.{window}
 use Rattle.view_types.specs.declared.shown.Shown.{Shown}
 use Rattle.hub_spec.specs.Past.{PastStep}
 use Rattle.hub_spec.specs.Bases.{delta_in, dirty}
-use Rattle.hub_spec.specs.HeldViews.{HeldView, views, held, held_by, opened, opened_view, shown}
+use Rattle.hub_spec.specs.HeldViews.{HeldView, views, held_view, held_by, opened_count, opened_view, shown}
 use Rattle.hub_spec.specs.Limits.{max_waiting, max_ports, max_views}
-use Rattle.hub_spec.specs.Ports.{schema as schema_made, ports, has_port, is_closed, used_ports, accepted, taken, waiting, all_waiting}
+use Rattle.hub_spec.specs.Ports.{schema as schema_made, ports, has_port, is_closed, used_ports, batches_accepted, taken_count, waiting, all_waiting}
 use Rattle.hub_spec.specs.Reading.{read_batch, batch_asked}
 use Rattle.hub_spec.specs.Room.{rows_with}
 use Rattle.hub_spec.specs.Rows.{schema_or_none, rows}
@@ -92,7 +92,7 @@ abbrev pub nothing_waits : List PastStep → ℕ → Option Refusal
 nothing_waits past port = refused_if (length (waiting past port) == 0) empty
 
 abbrev pub without_view : List PastStep → ℕ → ℕ → Option Refusal
-without_view past session view = refused_if (is_none (held past session view)) no_view
+without_view past session view = refused_if (is_none (held_view past session view)) no_view
 
 abbrev pub lost_view : Option HeldView → Option Refusal
 lost_view None = None
@@ -147,12 +147,12 @@ refusals past session (ask.open_view plan bound) =
 refusals past session (ask.take view wait) =
     without_table past
     ∷ without_view past session view
-    ∷ lost_view (held past session view)
+    ∷ lost_view (held_view past session view)
     ∷ []
 refusals past session (ask.rows view first end) =
     without_table past
     ∷ without_view past session view
-    ∷ lost_view (held past session view)
+    ∷ lost_view (held_view past session view)
     ∷ refused_if (nat_lt end first) (bad_window first end)
     ∷ []
 refusals past session (ask.close view) =
@@ -176,7 +176,7 @@ window_of (Some v) shows view first end = body.Rows v.edit first (window first e
 
 -- the number of the batch that is queued next
 abbrev pub queued : List PastStep → ℕ → Body
-queued past port = body.Queued port (length (accepted past port) + 1)
+queued past port = body.Queued port (length (batches_accepted past port) + 1)
 
 abbrev pub column_words : Column → ColumnWords
 column_words c = record { name = c.name; kind = type_name c.kind }
@@ -195,26 +195,26 @@ abbrev pub info_of : SchemaData → ℕ → ℕ → Body
 info_of made size waits =
     body.Info (map column_words made.columns) (index_name made made.keeping) (limit_in made.keeping) size waits
 
-abbrev pub granted : List PastStep → ℕ → Ask → Body
-granted past session (ask.table columns index limit) = body.Table
-granted past session ask.port = body.Port (ports past)
-granted past session ask.leave = body.Left (held_by past session)
-granted past session ask.info = info_of (schema_or_none past) (length (rows past)) (length (all_waiting past))
-granted past session (ask.update port rows) = queued past port
-granted past session (ask.replace port rows) = queued past port
-granted past session (ask.csv port text) = queued past port
-granted past session (ask.remove port keys) = queued past port
-granted past session (ask.clear port) = queued past port
-granted past session (ask.close_port port) = body.PortClosed port
-granted past session (ask.apply port) = body.Applied port (taken past port + 1)
-granted past session (ask.open_view plan bound) =
-    body.Opened 0 (shown past (opened_view session (opened past session) plan bound)) (opened past session)
-granted past session (ask.take view wait) = take_answer past session view (held past session view)
-granted past session (ask.rows view first end) = window_of (held past session view) (shown past) view first end
-granted past session (ask.close view) = body.Closed view
-granted past session (ask.unread why) = body.Refused (bad_frame (frame_cause why))
+abbrev pub grant : List PastStep → ℕ → Ask → Body
+grant past session (ask.table columns index limit) = body.Table
+grant past session ask.port = body.Port (ports past)
+grant past session ask.leave = body.Left (held_by past session)
+grant past session ask.info = info_of (schema_or_none past) (length (rows past)) (length (all_waiting past))
+grant past session (ask.update port rows) = queued past port
+grant past session (ask.replace port rows) = queued past port
+grant past session (ask.csv port text) = queued past port
+grant past session (ask.remove port keys) = queued past port
+grant past session (ask.clear port) = queued past port
+grant past session (ask.close_port port) = body.PortClosed port
+grant past session (ask.apply port) = body.Applied port (taken_count past port + 1)
+grant past session (ask.open_view plan bound) =
+    body.Opened 0 (shown past (opened_view session (opened_count past session) plan bound)) (opened_count past session)
+grant past session (ask.take view wait) = take_answer past session view (held_view past session view)
+grant past session (ask.rows view first end) = window_of (held_view past session view) (shown past) view first end
+grant past session (ask.close view) = body.Closed view
+grant past session (ask.unread why) = body.Refused (bad_frame (frame_cause why))
 
 -- the answer of a history of at most `limit` steps, where memory is plenty
 abbrev pub plain : ℕ → List PastStep → ℕ → Ask → Body
 plain limit past session request =
-    first_of (refused_if (nat_le limit (length past)) (history_full limit) ∷ refusals past session request) (granted past session request)
+    first_of (refused_if (nat_le limit (length past)) (history_full limit) ∷ refusals past session request) (grant past session request)

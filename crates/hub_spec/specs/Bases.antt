@@ -14,7 +14,7 @@ use Rattle.frame_types.specs.declared.reply.Body.{Body}
 use Rattle.frame_types.specs.declared.reply.Body.TheVariants as body
 use Rattle.plain_view.specs.Touching.{PlacedRow, head_touched, placed, touched_keys}
 use Rattle.hub_spec.specs.Past.{PastStep}
-use Rattle.hub_spec.specs.HeldViews.{HeldView, held, shown}
+use Rattle.hub_spec.specs.HeldViews.{HeldView, held_view, shown}
 use Rattle.hub_spec.specs.Ports.{version}
 
 -- ---- what a view shows, and since when
@@ -27,7 +27,7 @@ shown_by past None = nothing_shown
 shown_by past (Some v) = shown past v
 
 abbrev pub shown_in : List PastStep → ℕ → ℕ → Shown
-shown_in past session number = shown_by past (held past session number)
+shown_in past session number = shown_by past (held_view past session number)
 
 -- its rows with the places by which they are sorted
 abbrev pub placed_in : List PastStep → ℕ → ℕ → List PlacedRow
@@ -39,7 +39,7 @@ edit_by (Some v) = v.edit
 
 -- how many batches were applied, and how many edits of the view were answered
 abbrev pub mark_in : List PastStep → ℕ → ℕ → Mark
-mark_in past session number = record { version = version past; edit = edit_by (held past session number) }
+mark_in past session number = record { version = version past; edit = edit_by (held_view past session number) }
 
 -- ---- the base
 

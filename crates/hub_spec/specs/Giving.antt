@@ -5,7 +5,7 @@ use Rattle.frame_types.specs.declared.reply.Body.{Body}
 use Rattle.frame_types.specs.declared.reply.Body.TheVariants as body
 use Rattle.frame_types.specs.declared.reply.Refusal.{Refusal}
 use Rattle.hub_spec.specs.Past.{PastStep}
-use Rattle.hub_spec.specs.Answers.{first_of, refusals, granted}
+use Rattle.hub_spec.specs.Answers.{first_of, refusals, grant}
 use Rattle.hub_spec.specs.Histories.{choice_of, answer_under, may_choose}
 
 -- an answer, or why there is none
@@ -15,7 +15,7 @@ body_in (Err why) = body.Refused why
 
 -- the answer where memory is plenty
 abbrev pub plain_in : List PastStep → ℕ → Ask → Body
-plain_in past session request = first_of (refusals past session request) (granted past session request)
+plain_in past session request = first_of (refusals past session request) (grant past session request)
 
 -- the answer is the plain one under a choice that it names and that is allowed
 pub record IsGiven (past : List PastStep) (session : ℕ) (request : Ask) (answer : Body) : Type 0 where

@@ -40,8 +40,8 @@ is_opened_in session d = is_opened d.reply.body && d.session == session
     is_opened _ = false
 
 -- how many views the session has opened; they are numbered from 0
-abbrev pub opened : List PastStep → ℕ → ℕ
-opened past session = times (is_opened_in session) past
+abbrev pub opened_count : List PastStep → ℕ → ℕ
+opened_count past session = times (is_opened_in session) past
 
 abbrev pub is_view : ℕ → ℕ → HeldView → Bool
 is_view session number v = v.session == session && v.number == number
@@ -72,8 +72,8 @@ abbrev pub views : List PastStep → List HeldView
 views [] = []
 views (d ∷ past) = with_view past d.session d.reply.body d.request (views past)
 
-abbrev pub held : List PastStep → ℕ → ℕ → Option HeldView
-held past session number = find (is_view session number) (views past)
+abbrev pub held_view : List PastStep → ℕ → ℕ → Option HeldView
+held_view past session number = find (is_view session number) (views past)
 
 -- how many views the session holds
 abbrev pub held_by : List PastStep → ℕ → ℕ

@@ -8,7 +8,7 @@ use Rattle.row_batch.specs.declared.batch.Batch.{Batch}
 use Rattle.hub_spec.specs.Past.{PastStep, entries_of}
 use Rattle.hub_spec.specs.Bases.{base, folded_in}
 use Rattle.hub_spec.specs.Histories.{Entry, past_of}
-use Rattle.hub_spec.specs.Ports.{Applied, accepted, taken, waiting, applied}
+use Rattle.hub_spec.specs.Ports.{Applied, batches_accepted, taken_count, waiting, batches_applied}
 use Rattle.hub_spec.specs.Bases as bases
 use Rattle.hub_spec.specs.HeldViews as held
 use Rattle.hub_spec.specs.Ports as history
@@ -24,7 +24,7 @@ seqs_on port done = map (λ a. a.seq) (filter (λ a. a.port == port) done)
 -- on each port, the batches that were applied and then those that wait are those that were accepted
 abbrev pub AppliedThenWaiting : Type 0
 AppliedThenWaiting = (limit : ℕ) (h : List Entry) (port : ℕ) →
-    batches_on port (applied (past_of limit h)) ++ waiting (past_of limit h) port ≡ accepted (past_of limit h) port
+    batches_on port (batches_applied (past_of limit h)) ++ waiting (past_of limit h) port ≡ batches_accepted (past_of limit h) port
 
 -- 1 up to a number
 abbrev pub counted : ℕ → List ℕ
@@ -34,12 +34,12 @@ counted (suc n) = counted n ++ (n + 1) ∷ []
 -- on each port, the batches were applied in the order of their numbers, each once
 abbrev pub AppliedInOrder : Type 0
 AppliedInOrder = (limit : ℕ) (h : List Entry) (port : ℕ) →
-    seqs_on port (applied (past_of limit h)) ≡ counted (taken (past_of limit h) port)
+    seqs_on port (batches_applied (past_of limit h)) ≡ counted (taken_count (past_of limit h) port)
 
 -- the rows have no other source than the applied batches
 abbrev pub RowsAreApplied : Type 0
 RowsAreApplied = (past : List PastStep) →
-    rows past ≡ (fold (put_batch (schema_or_none past)) empty_store (map (λ a. a.batch) (applied past))).pairs
+    rows past ≡ (fold (put_batch (schema_or_none past)) empty_store (map (λ a. a.batch) (batches_applied past))).pairs
 
 -- of each view, what a client holds that folds each delta of it into its opening or its last resynchronisation is
 -- what the view showed at its base, with the mark of the base, and no delta is refused
@@ -53,15 +53,15 @@ DeltasFold = (limit : ℕ) (h : List Entry) → Folds limit h
 pub record IsUnchanged (session : ℕ) (past after : List PastStep) : Type 0 where
   pub schema : history.schema after ≡ history.schema past
   pub ports : history.ports after ≡ history.ports past
-  pub accepted : (port : ℕ) → history.accepted after port ≡ history.accepted past port
+  pub accepted : (port : ℕ) → history.batches_accepted after port ≡ history.batches_accepted past port
   pub closed : (port : ℕ) → history.is_closed after port ≡ history.is_closed past port
-  pub taken : (port : ℕ) → history.taken after port ≡ history.taken past port
+  pub taken : (port : ℕ) → history.taken_count after port ≡ history.taken_count past port
   pub waiting : (port : ℕ) → history.waiting after port ≡ history.waiting past port
-  pub applied : history.applied after ≡ history.applied past
+  pub applied : history.batches_applied after ≡ history.batches_applied past
   pub version : history.version after ≡ history.version past
   pub store : table.store after ≡ table.store past
   pub views : held.views after ≡ held.views past
-  pub opened : (asking : ℕ) → held.opened after asking ≡ held.opened past asking
+  pub opened : (asking : ℕ) → held.opened_count after asking ≡ held.opened_count past asking
   pub base : (asking number : ℕ) → bases.base after asking number ≡ bases.base past asking number
   pub dirty : (asking number : ℕ) → bases.dirty after asking number ≡ bases.dirty past asking number
   pub head_dirty : (asking number : ℕ) → bases.head_dirty after asking number ≡ bases.head_dirty past asking number

@@ -56,9 +56,9 @@ with_queued made port (body.Queued at seq) request batches = if at == port then 
 with_queued made port _ request batches = batches
 
 -- the batches that were accepted on a port, in order; a batch's `seq` is its place here, counted from 1
-abbrev pub accepted : List PastStep → ℕ → List Batch
-accepted [] port = []
-accepted (d ∷ past) port = with_queued (schema past) port d.reply.body d.request (accepted past port)
+abbrev pub batches_accepted : List PastStep → ℕ → List Batch
+batches_accepted [] port = []
+batches_accepted (d ∷ past) port = with_queued (schema past) port d.reply.body d.request (batches_accepted past port)
 
 abbrev pub takes_from : ℕ → Body → Bool
 takes_from port (body.Applied at seq) = at == port
@@ -66,12 +66,12 @@ takes_from port (body.AppliedLosing lost at seq) = at == port
 takes_from port _ = false
 
 -- how many batches of a port were applied
-abbrev pub taken : List PastStep → ℕ → ℕ
-taken past port = times (λ d. takes_from port d.reply.body) past
+abbrev pub taken_count : List PastStep → ℕ → ℕ
+taken_count past port = times (λ d. takes_from port d.reply.body) past
 
 -- the accepted batches that were not applied yet, the oldest first
 abbrev pub waiting : List PastStep → ℕ → List Batch
-waiting past port = drop (taken past port) (accepted past port)
+waiting past port = drop (taken_count past port) (batches_accepted past port)
 
 -- the numbers below n, ascending
 abbrev pub numbers_below : ℕ → List ℕ
@@ -102,19 +102,19 @@ with_first (b ∷ batches) port seq done = done ++ record { port = port; seq = s
 
 -- a step that is answered so applies the oldest batch that waits on the port before it
 abbrev pub with_applied : List PastStep → Body → List Applied → List Applied
-with_applied past (body.Applied port seq) done = with_first (waiting past port) port (taken past port + 1) done
-with_applied past (body.AppliedLosing lost port seq) done = with_first (waiting past port) port (taken past port + 1) done
+with_applied past (body.Applied port seq) done = with_first (waiting past port) port (taken_count past port + 1) done
+with_applied past (body.AppliedLosing lost port seq) done = with_first (waiting past port) port (taken_count past port + 1) done
 with_applied past _ done = done
 
 -- the batches that were applied, in order
-abbrev pub applied : List PastStep → List Applied
-applied [] = []
-applied (d ∷ past) = with_applied past d.reply.body (applied past)
+abbrev pub batches_applied : List PastStep → List Applied
+batches_applied [] = []
+batches_applied (d ∷ past) = with_applied past d.reply.body (batches_applied past)
 
 -- how many batches were applied
 abbrev pub version : List PastStep → ℕ
-version past = length (applied past)
+version past = length (batches_applied past)
 
 -- the version after a step with this answer
 abbrev pub version_after : List PastStep → Body → ℕ
-version_after past answer = length (with_applied past answer (applied past))
+version_after past answer = length (with_applied past answer (batches_applied past))

@@ -17,10 +17,10 @@ use Rattle.frame_types.specs.declared.reply.Body.{Body}
 use Rattle.frame_types.specs.declared.reply.Body.TheVariants as body
 use Rattle.frame_types.specs.declared.reply.Refusal.{Refusal}
 use Rattle.hub_spec.specs.Past.{PastStep}
-use Rattle.hub_spec.specs.Answers.{first_of, granted, lost_view, refusals, refused_if, take_answer, window_of, without_table, without_view}
+use Rattle.hub_spec.specs.Answers.{first_of, grant, lost_view, refusals, refused_if, take_answer, window_of, without_table, without_view}
 use Rattle.hub_spec.specs.Bases.{base_or_none, delta_in, dirty, edit_by, head_dirty, mark_in, shown_by, shown_in}
 use Rattle.hub_spec.specs.Giving.{Gives, plain_in}
-use Rattle.hub_spec.specs.HeldViews.{HeldView, held, held_by, is_view, shown, views}
+use Rattle.hub_spec.specs.HeldViews.{HeldView, held_view, held_by, is_view, shown, views}
 use Rattle.hub_spec.specs.Histories.{choice_of, plenty}
 use Rattle.hub_spec.specs.Ports.{schema}
 use Rattle.hub_spec.specs.Ports as history
@@ -44,11 +44,11 @@ map_state past (Some v) = refl
 
 -- what is kept under a number is what is held under it
 pub asked_is : (kept : List View) (counts : List ℕ) (past : List PastStep) (session number : ℕ) → Keeps kept counts past
-    → asked_at session number kept ≡ asked (option_map (state_in past) (held past session number))
+    → asked_at session number kept ≡ asked (option_map (state_in past) (held_view past session number))
 asked_is kept counts past session number h =
     ap (asked_at session number) h.views
     ∙ ap (λ o. asked (option_map (λ (k : View). k.state) o)) (find-map (is_kept session number) (kept_view past) (views past))
-    ∙ ap asked (map_state past (held past session number))
+    ∙ ap asked (map_state past (held_view past session number))
 
 -- a view that can't be asked
 record Refuses (o : Option HeldView) (why : Refusal) : Type 0 where
@@ -83,11 +83,11 @@ views_want kept counts past session request h takes = record {
 -- the answer to a request that asks a view which can't be asked
 pub asked_refused : (kept : List View) (counts : List ℕ) (past : List PastStep) (session number : ℕ) (request : Ask) (rest : List (Option Refusal)) (why : Refusal)
     → Keeps kept counts past → asked_at session number kept ≡ Err why
-    → refusals past session request ≡ without_table past ∷ without_view past session number ∷ lost_view (held past session number) ∷ rest
+    → refusals past session request ≡ without_table past ∷ without_view past session number ∷ lost_view (held_view past session number) ∷ rest
     → Gives past session request (body.Refused why) (Keeps kept counts)
 asked_refused kept counts past session number request rest why h e are =
-    let grants : Body = granted past session request in
-    let o : Option HeldView = held past session number in
+    let grants : Body = grant past session request in
+    let o : Option HeldView = held_view past session number in
     let r = refuses past o why (sym (asked_is kept counts past session number h) ∙ e) in
     views_refuse kept counts past session request why h r.unnamed
     (ap (λ (checks : List (Option Refusal)). first_of checks grants) are
@@ -96,7 +96,7 @@ asked_refused kept counts past session number request rest why h e are =
 -- a view that can be asked
 pub record IsAsked (past : List PastStep) (session number : ℕ) (live : LiveView) : Type 0 where
   pub view : HeldView
-  pub found : held past session number ≡ Some view
+  pub found : held_view past session number ≡ Some view
   pub lives : view.lost ≡ None
   pub is : live ≡ live_at past session number view.bound view.edit
 
@@ -113,7 +113,7 @@ live_there past (Some v) live e = by v.lost refl e
 pub asked_there : (kept : List View) (counts : List ℕ) (past : List PastStep) (session number : ℕ) (live : LiveView) → Keeps kept counts past
     → asked_at session number kept ≡ Ok live → IsAsked past session number live
 asked_there kept counts past session number live h e =
-    let there = live_there past (held past session number) live (sym (asked_is kept counts past session number h) ∙ e) in
+    let there = live_there past (held_view past session number) live (sym (asked_is kept counts past session number h) ∙ e) in
     let v : HeldView = there.0 in
     let parts = and_parts (eqb v.session session) (eqb v.number number) (found_passes (is_view session number) (views past) v there.1) in
     record {
@@ -127,10 +127,10 @@ asked_there kept counts past session number live h e =
 -- what follows is tested then
 pub asked_plain : (past : List PastStep) (session number : ℕ) (live : LiveView) (rest : List (Option Refusal)) (grants : Option HeldView → Body)
     → is_none (schema past) ≡ false → (a : IsAsked past session number live)
-    → first_of (without_table past ∷ without_view past session number ∷ lost_view (held past session number) ∷ rest) (grants (held past session number))
+    → first_of (without_table past ∷ without_view past session number ∷ lost_view (held_view past session number) ∷ rest) (grants (held_view past session number))
     ≡ first_of rest (grants (Some a.view))
 asked_plain past session number live rest grants made a =
-    let o : Option HeldView = held past session number in
+    let o : Option HeldView = held_view past session number in
     let behind : Option HeldView → Body = λ x. first_of (refused_if (is_none x) no_view ∷ lost_view x ∷ rest) (grants x) in
     ap (λ b. first_of (refused_if b no_table ∷ refused_if (is_none o) no_view ∷ lost_view o ∷ rest) (grants o)) made
     ∙ ap behind a.found ∙ ap (λ (lost : Option ℕ). first_of (option_map view_lost lost ∷ rest) (grants (Some a.view))) a.lives
@@ -160,7 +160,7 @@ taken_is past session number version live answer a now tells =
     ∙ ap (λ (x : LiveView). live_take_answer x keys header number (mark version x.edit)) a.is
     ∙ ap (λ n. live_take_answer kept keys header number (mark n v.edit)) now
     ∙ ap (λ e. live_take_answer kept keys header number (mark (history.version past) e)) (sym (ap edit_by a.found))
-    ∙ ap (λ n. answers (leb n v.bound) (edit_by (held past session number)) (shown_in past session number)) (length-map (dirty past session number) (λ k. (k, has_row k was.shown.rows)))
+    ∙ ap (λ n. answers (leb n v.bound) (edit_by (held_view past session number)) (shown_in past session number)) (length-map (dirty past session number) (λ k. (k, has_row k was.shown.rows)))
     ∙ ap (λ e. answers few e (shown_in past session number)) (ap edit_by a.found)
     ∙ ap (answers few v.edit) (ap (shown_by past) a.found)
 
@@ -233,8 +233,8 @@ pub close_plain : (kept : List View) (counts : List ℕ) (past : List PastStep) 
     → find (is_kept session number) kept ≡ o
     → plain_in past session (ask.close number) ≡ first_of (refused_if (is_none o) no_view ∷ []) (body.Closed number)
 close_plain kept counts past session number o h is =
-    let none : is_none (held past session number) ≡ is_none o =
-    sym (by (held past session number))
+    let none : is_none (held_view past session number) ≡ is_none o =
+    sym (by (held_view past session number))
     ∙ ap is_none (sym (ap (find (is_kept session number)) h.views ∙ find-map (is_kept session number) (kept_view past) (views past)) ∙ is) in
     rw (h.made, none) refl
   where

@@ -20,7 +20,7 @@ use Rattle.frame_types.specs.declared.reply.Body.TheVariants as body
 use Rattle.hub_spec.specs.Past.{PastStep}
 use Rattle.hub_spec.specs.Bases.{base_or_none, dirty, edit_by, head_dirty, is_base, mark_in, placed_in, shown_by, shown_in}
 use Rattle.hub_spec.specs.Giving.{with_step}
-use Rattle.hub_spec.specs.HeldViews.{HeldView, held, is_view, opened, opened_view, views}
+use Rattle.hub_spec.specs.HeldViews.{HeldView, held_view, is_view, opened_count, opened_view, views}
 use Rattle.hub_spec.specs.Ports.{schema}
 use Rattle.hub_spec.specs.Ports as history
 use Rattle.hub_spec.specs.Rows.{rows, schema_or_none}
@@ -93,7 +93,7 @@ own_found vs = λ k x lt. let v : HeldView = get_or vs k x in found_if (is_view 
 -- where the rows stay, a view that stays is kept as it was
 pub still_kept : (past : List PastStep) (d : PastStep) (v : HeldView)
     → flat_view (schema_or_none (d ∷ past)) (rows (d ∷ past)) ≡ flat_view (schema_or_none past) (rows past)
-    → is_some (held past v.session v.number) ≡ true → is_some (held (d ∷ past) v.session v.number) ≡ true → is_base v.session v.number d ≡ false
+    → is_some (held_view past v.session v.number) ≡ true → is_some (held_view (d ∷ past) v.session v.number) ≡ true → is_base v.session v.number d ≡ false
     → kept_view past v ≡ kept_view (d ∷ past) v
 still_kept past d v same before after other = kept_same past d v (shown_still past (d ∷ past) _ _ same after before) other
 
@@ -103,7 +103,7 @@ record IsQuiet (past : List PastStep) (d : PastStep) : Type 0 where
   made : schema (d ∷ past) ≡ schema past
   shown : (s number : ℕ) → shown_in (d ∷ past) s number ≡ shown_in past s number
   views : views (d ∷ past) ≡ views past
-  opened : (s : ℕ) → opened (d ∷ past) s ≡ opened past s
+  opened : (s : ℕ) → opened_count (d ∷ past) s ≡ opened_count past s
   other : (s number : ℕ) → is_base s number d ≡ false
 
 quiet : (kept : List View) (counts : List ℕ) (past : List PastStep) (d : PastStep) → IsQuiet past d → Keeps kept counts past → Keeps kept counts (d ∷ past)
@@ -114,7 +114,7 @@ quiet kept counts past d q h = record {
       ∙ ap (map (kept_view (d ∷ past))) (sym q.views);
   size = h.size;
   opened = λ s lt. h.opened s lt ∙ sym (q.opened s);
-  numbered = rw q.views (numbered_still (opened past) (opened (d ∷ past)) (views past) (λ s. omega (arith, q.opened s)) h.numbered);
+  numbered = rw q.views (numbered_still (opened_count past) (opened_count (d ∷ past)) (views past) (λ s. omega (arith, q.opened s)) h.numbered);
 }
 
 -- the answer changes no view
@@ -153,7 +153,7 @@ views_stay v past session n version request answer is h = keeps_stay v.items.ite
 pub filtered_views : (kept : List View) (counts : List ℕ) (past : List PastStep) (d : PastStep) (test : View → Bool) → Keeps kept counts past
     → schema (d ∷ past) ≡ schema past → flat_view (schema_or_none (d ∷ past)) (rows (d ∷ past)) ≡ flat_view (schema_or_none past) (rows past)
     → views (d ∷ past) ≡ filter (λ v. test (kept_view past v)) (views past)
-    → ((s : ℕ) → opened (d ∷ past) s ≡ opened past s) → ((s number : ℕ) → is_base s number d ≡ false)
+    → ((s : ℕ) → opened_count (d ∷ past) s ≡ opened_count past s) → ((s number : ℕ) → is_base s number d ≡ false)
     → Keeps (filter test kept) counts (d ∷ past)
 filtered_views kept counts past d test h made same are counted other =
     let keeps : HeldView → Bool = λ v. test (kept_view past v) in
@@ -171,7 +171,7 @@ filtered_views kept counts past d test h made same are counted other =
           ∙ ap (map (kept_view (d ∷ past))) (sym are);
       size = h.size;
       opened = λ s lt. h.opened s lt ∙ sym (counted s);
-      numbered = rw are (numbered_still (opened past) (opened (d ∷ past)) left (λ s. omega (arith, counted s)) (numbered_filter (opened past) keeps vs h.numbered));
+      numbered = rw are (numbered_still (opened_count past) (opened_count (d ∷ past)) left (λ s. omega (arith, counted s)) (numbered_filter (opened_count past) keeps vs h.numbered));
     }
 
 -- ---- views of which one has a new base
@@ -213,7 +213,7 @@ rebased_one past d session number mark v shows base marks = by (eqb number v.num
 
 pub rebased_views : (kept : List View) (counts : List ℕ) (past : List PastStep) (d : PastStep) (session number : ℕ) (mark : Mark) → Keeps kept counts past
     → schema (d ∷ past) ≡ schema past → ((s i : ℕ) → shown_in (d ∷ past) s i ≡ shown_in past s i) → views (d ∷ past) ≡ views past
-    → ((s : ℕ) → opened (d ∷ past) s ≡ opened past s)
+    → ((s : ℕ) → opened_count (d ∷ past) s ≡ opened_count past s)
     → ((s i : ℕ) → is_base s i d ≡ (eqb number i && eqb session s)) → mark_in (d ∷ past) session number ≡ mark
     → Keeps (map (rebased_at session number mark) kept) counts (d ∷ past)
 rebased_views kept counts past d session number mark h made shown same counted bases marks = record {
@@ -224,5 +224,5 @@ rebased_views kept counts past d session number mark h made shown same counted b
       ∙ ap (map (kept_view (d ∷ past))) (sym same);
   size = h.size;
   opened = λ s lt. h.opened s lt ∙ sym (counted s);
-  numbered = rw same (numbered_still (opened past) (opened (d ∷ past)) (views past) (λ s. omega (arith, counted s)) h.numbered);
+  numbered = rw same (numbered_still (opened_count past) (opened_count (d ∷ past)) (views past) (λ s. omega (arith, counted s)) h.numbered);
 }

@@ -117,8 +117,8 @@ named_alike past lost other (v ∷ vs) (w ∷ ws) same h = (
 
 losses_named : (past : List PastStep) (now : Shown) (version : ℕ) (opened : ℕ → ℕ) (vs : List HeldView) (ws : List View) → AreNumbered opened vs
     → AreRefreshed now version (map (kept_view past) vs) ws → AllZip (IsNamed past (losses (map (kept_view past) vs) ws)) vs ws
-losses_named past now version opened [] [] numbered h = tt
-losses_named past now version opened [] (w ∷ ws) numbered h = absurd h
+losses_named past now version opened_count [] [] numbered h = tt
+losses_named past now version opened_count [] (w ∷ ws) numbered h = absurd h
 losses_named past now version opened (v ∷ vs) [] numbered h = absurd h
 losses_named past now version opened (v ∷ vs) (w ∷ ws) numbered h =
     by (is_loss (state_of past v v.lost) w.state) refl (losses_named past now version opened vs ws numbered.2 h.1)
@@ -157,7 +157,7 @@ table_shows t number past h =
 record IsApplied (past : List PastStep) (d : PastStep) (at : ℕ) (lost : List (ℕ × ℕ)) (now : Shown) : Type 0 where
   made : is_none (ports.schema (d ∷ past)) ≡ false
   views : held.views (d ∷ past) ≡ map (lost_at at lost) (held.views past)
-  opened : (s : ℕ) → held.opened (d ∷ past) s ≡ held.opened past s
+  opened : (s : ℕ) → held.opened_count (d ∷ past) s ≡ held.opened_count past s
   other : (s n : ℕ) → is_base s n d ≡ false
   shows : flat_view (rows.schema_or_none (d ∷ past)) (rows.rows (d ∷ past)) ≡ now
 
@@ -178,9 +178,9 @@ kept_now : (past : List PastStep) (d : PastStep) (at : ℕ) (lost : List (ℕ ×
     → All (IsKeptBy past (d ∷ past) now) (held.views past)
 kept_now past d at lost now is = λ k x lt live brought.
     let v : HeldView = get_or (held.views past) k x in
-    let some : is_some (held.held (d ∷ past) v.session v.number) ≡ true =
+    let some : is_some (held.held_view (d ∷ past) v.session v.number) ≡ true =
     ap (λ vs. is_some (find (is_view v.session v.number) vs)) is.views ∙ lost_found at lost (held.views past) k x lt in
-    brought_is past d v now live (is.other v.session v.number) (shown_of_some (d ∷ past) (held.held (d ∷ past) v.session v.number) some ∙ is.shows) brought
+    brought_is past d v now live (is.other v.session v.number) (shown_of_some (d ∷ past) (held.held_view (d ∷ past) v.session v.number) some ∙ is.shows) brought
 
 refreshed : (kept ws : List View) (counts : List ℕ) (past : List PastStep) (d : PastStep) (at : ℕ) (lost : List (ℕ × ℕ)) (now : Shown)
     → Keeps kept counts past → AreRefreshed now at kept ws → IsPermutation (losses kept ws) lost → IsApplied past d at lost now
@@ -196,13 +196,13 @@ refreshed kept ws counts past d at lost now h renewed moved is =
     record {
       made = is.made;
       views = views_after past (d ∷ past) now at lost vs ws (kept_now past d at lost now is) all
-          (named_alike past (losses was ws) lost vs ws alike (losses_named past now at (held.opened past) vs ws h.numbered all))
+          (named_alike past (losses was ws) lost vs ws alike (losses_named past now at (held.opened_count past) vs ws h.numbered all))
           ∙ ap (map (kept_view (d ∷ past))) (sym is.views);
       size = h.size;
       opened = λ s lt. h.opened s lt ∙ sym (is.opened s);
-      numbered = subst (AreNumbered (held.opened (d ∷ past))) (sym is.views)
-          (numbered_still (held.opened past) (held.opened (d ∷ past)) (map (lost_at at lost) vs) (λ s. omega (arith, is.opened s))
-          (numbered_lost (held.opened past) at lost vs h.numbered));
+      numbered = subst (AreNumbered (held.opened_count (d ∷ past))) (sym is.views)
+          (numbered_still (held.opened_count past) (held.opened_count (d ∷ past)) (map (lost_at at lost) vs) (λ s. omega (arith, is.opened s))
+          (numbered_lost (held.opened_count past) at lost vs h.numbered));
     }
 
 pub refreshed_views : (kept ws : List View) (counts : List ℕ) (past : List PastStep) (t : TableData) (number session n at port seq : ℕ) (request : Ask) (lost : List (ℕ × ℕ))
@@ -247,7 +247,7 @@ flips x y = ap (λ b. b && eqb x.1 y.1) (eqb_flips x.0 y.0) ∙ ap (λ b. eqb y.
 losses_distinct : (past : List PastStep) (opened : ℕ → ℕ) (vs : List HeldView) (ws : List View) → AreNumbered opened vs
     → IsDistinct same_name (losses (map (kept_view past) vs) ws)
 unfolding IsDistinct
-losses_distinct past opened [] ws numbered = tt
+losses_distinct past opened_count [] ws numbered = tt
 losses_distinct past opened (v ∷ vs) [] numbered = tt
 losses_distinct past opened (v ∷ vs) (w ∷ ws) numbered = by (is_loss (state_of past v v.lost) w.state) (losses_distinct past opened vs ws numbered.2)
   where
@@ -307,6 +307,6 @@ are_losses kept ws counts past lost h moved up =
     let test : HeldView → Bool = λ u. is_view v.session v.number u && is_none u.lost in
     sym (has_is_any test vs) ∙ found_if test vs k x lt (rw (own_is_view v) (was_live past v v.lost w.state is))) in
     record {
-      ascending = ascends lost up (IsDistinct-IsPermutation same_name flips all lost shuffled (losses_distinct past (held.opened past) vs ws h.numbered));
+      ascending = ascends lost up (IsDistinct-IsPermutation same_name flips all lost shuffled (losses_distinct past (held.opened_count past) vs ws h.numbered));
       live = list_all-from_AllPass (is_live past) lost (All-permutation (λ w. is_live past w ≡ true) all lost shuffled each);
     }

@@ -37,7 +37,7 @@ are_apart v w before =
 
 -- each number is one that the session has given
 pub numbers_given : (opened : ℕ → ℕ) (vs : List HeldView) → AreNumbered opened vs → All (λ v. v.number < opened v.session) vs
-numbers_given opened [] h = All-nil (λ v. v.number < opened v.session)
+numbers_given opened_count [] h = All-nil (λ v. v.number < opened v.session)
 numbers_given opened (v ∷ vs) h = All-cons (λ w. w.number < opened w.session) v vs h.0 (numbers_given opened vs h.2)
 
 -- ---- what keeps lists numbered
@@ -59,7 +59,7 @@ numbered_filter opened keeps (v ∷ vs) h = by (keeps v) (numbered_filter opened
 -- one came with a greater number
 pub numbered_push : (opened : ℕ → ℕ) (vs : List HeldView) (w : HeldView) → AreNumbered opened vs → w.number < opened w.session
     → All (λ v. IsBefore v w) vs → AreNumbered opened (vs ++ w ∷ [])
-numbered_push opened [] w h lt before = (lt, All-nil (IsBefore w), tt)
+numbered_push opened_count [] w h lt before = (lt, All-nil (IsBefore w), tt)
 numbered_push opened (v ∷ vs) w h lt before = (
   h.0,
   All-push (IsBefore v) vs w h.1 (All-head (λ u. IsBefore u w) v vs before),

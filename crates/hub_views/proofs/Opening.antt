@@ -16,10 +16,10 @@ use Rattle.frame_types.specs.Refusals.{bad_frame, too_many_views}
 use Rattle.frame_types.specs.declared.reply.Body.TheVariants as body
 use Rattle.frame_types.specs.declared.reply.Cause.TheVariants.{Unbuilt}
 use Rattle.hub_spec.specs.Past.{PastStep}
-use Rattle.hub_spec.specs.Answers.{first_of, granted, is_empty_plan, refused_if}
+use Rattle.hub_spec.specs.Answers.{first_of, grant, is_empty_plan, refused_if}
 use Rattle.hub_spec.specs.Bases.{edit_by, is_base, shown_in}
 use Rattle.hub_spec.specs.Giving.{plain_in, with_step}
-use Rattle.hub_spec.specs.HeldViews.{HeldView, held, is_opened_in, is_view, opened, opened_view, views}
+use Rattle.hub_spec.specs.HeldViews.{HeldView, held_view, is_opened_in, is_view, opened_count, opened_view, views}
 use Rattle.hub_spec.specs.Limits.{max_views}
 use Rattle.hub_spec.specs.Ports as history
 use Rattle.hub_spec.specs.Rows.{rows, schema_or_none}
@@ -56,40 +56,40 @@ set_count counts session s few size lt was =
 
 opened_views : (kept : List View) (counts : List ℕ) (past : List PastStep) (session : ℕ) (plan : RawData) (bound n version : ℕ) (shown : Shown)
     → Keeps kept counts past → session < sessions → shown ≡ flat_view (schema_or_none past) (rows past)
-    → Keeps (kept ++ record { session = session; number = opened past session; state = Live (fresh_live bound (record { version = history.version past; edit = 0 }) shown) } ∷ [])
-    (set counts session (opened past session + 1)) (with_step session (ask.open_view plan bound) n version (body.Opened 0 shown (opened past session)) past)
+    → Keeps (kept ++ record { session = session; number = opened_count past session; state = Live (fresh_live bound (record { version = history.version past; edit = 0 }) shown) } ∷ [])
+    (set counts session (opened_count past session + 1)) (with_step session (ask.open_view plan bound) n version (body.Opened 0 shown (opened_count past session)) past)
 opened_views kept counts past session plan bound n version shown h lt shows =
-    let number : ℕ = opened past session in
+    let number : ℕ = opened_count past session in
     let d : PastStep = record { session = session; request = ask.open_view plan bound; reply = record { n = n; version = version; body = body.Opened 0 shown number } } in
     let now : List PastStep = d ∷ past in
     let vs : List HeldView = views past in
     let w : HeldView = opened_view session number plan bound in
     let before : All (λ v. IsBefore v w) vs =
-    All-weaker (λ v. v.number < opened past v.session) (λ v. IsBefore v w) (λ v given same. subst (λ s. v.number < opened past s) same given) vs
-    (numbers_given (opened past) vs h.numbered) in
+    All-weaker (λ v. v.number < opened_count past v.session) (λ v. IsBefore v w) (λ v given same. subst (λ s. v.number < opened_count past s) same given) vs
+    (numbers_given (opened_count past) vs h.numbered) in
     let others : All (λ v. kept_view past v ≡ kept_view now v) vs =
     λ k x within.
     let v : HeldView = get_or vs k x in
-    let own : is_some (held past v.session v.number) ≡ true = own_found vs k x within in
+    let own : is_some (held_view past v.session v.number) ≡ true = own_found vs k x within in
     still_kept past d v refl own (found_more (is_view v.session v.number) vs (w ∷ []) own) (are_apart v w (before k x within)) in
     let here : is_base session number d ≡ true = rw (eq-eqb number number refl, eq-eqb session session refl) refl in
     let showing : shown_in now session number ≡ shown =
-    shown_of_some now (held now session number) (found_last (is_view session number) vs w (own_is_view w)) ∙ sym shows in
+    shown_of_some now (held_view now session number) (found_last (is_view session number) vs w (own_is_view w)) ∙ sym shows in
     let shows_at : Shown → ℕ → View = λ seen edit.
     let base : Mark = record { version = history.version past; edit = edit } in
     with_state w (Live (record { bound = bound; edit = 0; shown = seen; base = base; dirty = dirty_of bound [] false })) in
     let last : kept_view now w ≡ shows_at shown 0 =
     ap (λ l. with_state w (Live l)) (based_is past d session number bound 0 here)
-    ∙ ap (λ seen. shows_at seen (edit_by (held now session number))) showing ∙ ap (shows_at shown) (no_edit now session number) in
-    let one_more : opened now session ≡ number + 1 = rw (eq-eqb session session refl) refl in
+    ∙ ap (λ seen. shows_at seen (edit_by (held_view now session number))) showing ∙ ap (shows_at shown) (no_edit now session number) in
+    let one_more : opened_count now session ≡ number + 1 = rw (eq-eqb session session refl) refl in
     record {
       made = h.made;
       views = ap (λ ks. ks ++ shows_at shown 0 ∷ []) (h.views ∙ map_same (kept_view past) (kept_view now) vs others)
           ∙ ap (λ k. map (kept_view now) vs ++ k ∷ []) (sym last) ∙ sym (map-append (kept_view now) vs (w ∷ []));
       size = length-set counts session (number + 1) ∙ h.size;
-      opened = λ s few. set_count counts session s (opened past) h.size lt (h.opened s few);
-      numbered = numbered_push (opened now) vs w
-          (numbered_still (opened past) (opened now) vs (λ s. grows (eqb session s) (opened past s)) h.numbered) (omega (arith, one_more)) before;
+      opened = λ s few. set_count counts session s (opened_count past) h.size lt (h.opened s few);
+      numbered = numbered_push (opened_count now) vs w
+          (numbered_still (opened_count past) (opened_count now) vs (λ s. grows (eqb session s) (opened_count past s)) h.numbered) (omega (arith, one_more)) before;
     }
 
 -- what is answered and held then
@@ -100,13 +100,13 @@ pub opened_is : (kept after : List View) (counts : List ℕ) (past : List PastSt
     → next ≡ min (get_or counts session 0 + 1) (2 ^ 64 - 1)
     → IsOpened past session bound (body.Opened 0 shown (get_or counts session 0)) (Keeps after (set counts session next))
 opened_is kept after counts past session bound next version t shown live h table few lt shows fresh pushed next_is =
-    let number : get_or counts session 0 ≡ opened past session = h.opened session lt in
+    let number : get_or counts session 0 ≡ opened_count past session = h.opened session lt in
     let shows_rows : shown ≡ flat_view (schema_or_none past) (rows past) = shows ∙ sym (table_shows t version past table) in
-    let raised : next ≡ opened past session + 1 = omega (arith, next_is, number, times_le (is_opened_in session) past) in
+    let raised : next ≡ opened_count past session + 1 = omega (arith, next_is, number, times_le (is_opened_in session) past) in
     let entry : ℕ → LiveView → View = λ k l. record { session = session; number = k; state = Live l } in
     let base : ℕ → LiveView = λ k. fresh_live bound (record { version = k; edit = 0 }) shown in
-    let all : after ≡ kept ++ entry (opened past session) (base (history.version past)) ∷ [] =
-    pushed ∙ ap (λ k. kept ++ entry k live ∷ []) number ∙ ap (λ l. kept ++ entry (opened past session) l ∷ []) (fresh ∙ ap base table.number) in
+    let all : after ≡ kept ++ entry (opened_count past session) (base (history.version past)) ∷ [] =
+    pushed ∙ ap (λ k. kept ++ entry k live ∷ []) number ∙ ap (λ l. kept ++ entry (opened_count past session) l ∷ []) (fresh ∙ ap base table.number) in
     record {
       right = λ plan. ap (λ s. body.Opened 0 s (get_or counts session 0)) shows_rows ∙ ap (body.Opened 0 (flat_view (schema_or_none past) (rows past))) number;
       unnamed = refl;
@@ -117,7 +117,7 @@ opened_is kept after counts past session bound next version t shown live h table
 pub open_plain : (kept : List View) (counts : List ℕ) (past : List PastStep) (session bound : ℕ) (plan : RawData) (empty full : Bool) → Keeps kept counts past
     → is_empty_plan plan ≡ empty → leb max_views (length kept) ≡ full
     → plain_in past session (ask.open_view plan bound)
-    ≡ first_of (refused_if (not empty) (bad_frame Unbuilt) ∷ refused_if full too_many_views ∷ []) (granted past session (ask.open_view plan bound))
+    ≡ first_of (refused_if (not empty) (bad_frame Unbuilt) ∷ refused_if full too_many_views ∷ []) (grant past session (ask.open_view plan bound))
 open_plain kept counts past session bound plan empty full h is many =
     let count : length (views past) ≡ length kept = sym (ap length h.views ∙ length-map (views past) (kept_view past)) in
     let all : leb max_views (length (views past)) ≡ full = ap (leb max_views) count ∙ many in

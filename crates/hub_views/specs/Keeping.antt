@@ -9,7 +9,7 @@ use Rattle.frame_types.specs.Refusals.{no_view, view_lost}
 use Rattle.frame_types.specs.declared.reply.Body.{Body}
 use Rattle.frame_types.specs.declared.reply.Refusal.{Refusal}
 use Rattle.hub_spec.specs.Past.{PastStep}
-use Rattle.hub_spec.specs.Answers.{granted}
+use Rattle.hub_spec.specs.Answers.{grant}
 use Rattle.hub_spec.specs.Bases.{base_or_none, dirty, head_dirty, shown_in}
 use Rattle.hub_spec.specs.Giving.{with_step}
 use Rattle.hub_spec.specs.HeldViews.{HeldView}
@@ -60,7 +60,7 @@ asked_at session number kept = asked (option_map (λ v. v.state) (find (is_kept 
 
 -- each view of a session has a lesser number than those that the session opened after it
 abbrev pub AreNumbered : (ℕ → ℕ) → List HeldView → Type 0
-AreNumbered opened [] = Unit {0}
+AreNumbered opened_count [] = Unit {0}
 AreNumbered opened (v ∷ vs) =
     (v.number < opened v.session) × All (λ w. v.session ≡ w.session → v.number < w.number) vs × AreNumbered opened vs
 
@@ -68,8 +68,8 @@ pub record Keeps (kept : List View) (counts : List ℕ) (past : List PastStep) :
   pub made : is_none (ports.schema past) ≡ false
   pub views : kept ≡ map (kept_view past) (held.views past)
   pub size : length counts ≡ sessions
-  pub opened : (session : ℕ) → session < sessions → slice_index counts session ≡ held.opened past session
-  pub numbered : AreNumbered (held.opened past) (held.views past)
+  pub opened : (session : ℕ) → session < sessions → slice_index counts session ≡ held.opened_count past session
+  pub numbered : AreNumbered (held.opened_count past) (held.views past)
 
 -- a table was made, and these are the views that sessions hold
 unfoldable pub HoldsViews : Views → List PastStep → Type 0
@@ -77,7 +77,7 @@ HoldsViews v past = Keeps v.items.items v.opened past
 
 -- the answer opens a view of all that the table's rows show
 pub record IsOpened (past : List PastStep) (session bound : ℕ) (answer : Body) (Holds : List PastStep → Type 0) : Type 0 where
-  pub right : (plan : RawData) → answer ≡ granted past session (ask.open_view plan bound)
+  pub right : (plan : RawData) → answer ≡ grant past session (ask.open_view plan bound)
   pub unnamed : choice_of answer ≡ plenty
   pub holds : (plan : RawData) (n version : ℕ) → Holds (with_step session (ask.open_view plan bound) n version answer past)
 
@@ -85,4 +85,4 @@ pub record IsOpened (past : List PastStep) (session bound : ℕ) (answer : Body)
 pub record HasNoViews (past : List PastStep) : Type 0 where
   pub made : is_none (ports.schema past) ≡ false
   pub views : held.views past ≡ []
-  pub opened : (session : ℕ) → held.opened past session ≡ 0
+  pub opened : (session : ℕ) → held.opened_count past session ≡ 0

@@ -36,9 +36,9 @@ impl LiveView {
         Ok(LiveView {
             bound,
             edit: base.edit,
-            shown: ShownByKey::of(alloc, shown.copies(alloc)?)?,
+            shown: ShownByKey::of(alloc, shown.copy(alloc)?)?,
             base,
-            dirty: DirtySet::make(alloc, bound),
+            dirty: DirtySet::new(alloc, bound),
         })
     }
 
@@ -52,7 +52,7 @@ impl LiveView {
             return Ok(Body::Resync {
                 bound: self.bound,
                 edit: mark.edit,
-                shown: self.shown.shown().copies(alloc)?,
+                shown: self.shown.shown().copy(alloc)?,
                 view,
             });
         }

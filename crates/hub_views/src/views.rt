@@ -148,7 +148,7 @@ impl Views {
             edit: live.edit,
             from,
             shown,
-            size: live.shown.size() as u64,
+            size: live.shown.len() as u64,
             view,
         })
     }

@@ -17,7 +17,7 @@ pub struct Tally {
 
 impl Tally {
     /// A tally before the first call.
-    pub fn make(fails: Calls) -> Tally
+    pub fn new(fails: Calls) -> Tally
         ensures { result ≡ record { fails = fails; calls = 0; faults = 0 } }
     {
         Tally {

@@ -37,14 +37,14 @@ impl Model for MemSink {
 impl MemSink {
     /// A sink that takes pieces of at most `piece`, and fails at the calls of `fails`. It takes no
     /// memory before the first write.
-    pub fn make(alloc: Global, piece: usize, fails: Calls) -> MemSink
+    pub fn new(alloc: Global, piece: usize, fails: Calls) -> MemSink
         requires { 0 < piece }
         ensures { result ≡ record { taken = []; piece = piece; fails = fails; calls = 0; faults = 0 } }
     {
         MemSink {
             taken: Vec::new(alloc),
             piece,
-            tally: Tally::make(fails),
+            tally: Tally::new(fails),
         }
     }
 

@@ -37,7 +37,7 @@ impl Model for MemSource {
 
 impl MemSource {
     /// A source that gives `bytes` in pieces of at most `piece`, and fails at the calls of `fails`.
-    pub fn make(bytes: Bytes, piece: usize, fails: Calls) -> MemSource
+    pub fn new(bytes: Bytes, piece: usize, fails: Calls) -> MemSource
         requires { 0 < piece }
         ensures { result ≡ record { left = bytes; piece = piece; fails = fails; calls = 0; faults = 0 } }
     {
@@ -45,7 +45,7 @@ impl MemSource {
             bytes,
             from: 0,
             piece,
-            tally: Tally::make(fails),
+            tally: Tally::new(fails),
         }
     }
 }

@@ -119,7 +119,7 @@ impl<V: Drop> LiveList<V> {
         ensures err { OnErr result (self.new ≡ self.old) }
     {
         let key_copy = key.copy(alloc)?;
-        let place_copy = place.copies(alloc)?;
+        let place_copy = place.copy(alloc)?;
         self.places.insert(key_copy, place_copy)?;
         match self.rows.insert(place, LiveRow { key, value }) {
             Ok(_) => Ok(()),

@@ -53,7 +53,7 @@ impl Placed for RowPlace {
 
 impl Copies for RowPlace {
     /// An equal one, with no room to spare.
-    fn copies(&self, alloc: Global) -> Result<RowPlace, Memory> {
+    fn copy(&self, alloc: Global) -> Result<RowPlace, Memory> {
         let ranks = self.place.as_slice();
         let mut copy = Vec::with_capacity(alloc, ranks.len())?;
         for rank in ranks {
@@ -78,7 +78,7 @@ fn value_copied(alloc: Global, value: &RankValue) -> Result<RankValue, Memory>
     ensures { IfOk result (λ copy. copy ≡ value.now) }
 {
     match value {
-        Some(value) => Ok(Some(value.copies(alloc)?)),
+        Some(value) => Ok(Some(value.copy(alloc)?)),
         None => Ok(None),
     }
 }

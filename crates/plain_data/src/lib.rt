@@ -6,7 +6,7 @@
 //! exactly where they hold the same, whatever room they have.
 #![tactic(auto)]
 
-mod copies;
+mod copying;
 mod listed;
 mod memory;
 mod steps;
@@ -14,7 +14,7 @@ mod steps;
 mod tests;
 mod text;
 
-pub use copies::Copies;
+pub use copying::Copies;
 pub use listed::{Bytes, Listed, Texts};
 pub use memory::Memory;
 pub use steps::Steps;

@@ -3,7 +3,7 @@ ghost use Rattle.std.specs.Option.{option_copied};
 ghost use Rattle.std.specs.Cmp.Lexicographic.{slice_cmp, slice_partial_cmp, lists_per, lists_po, lists_equiv, lists_total, lists_agrees, lists_ties};
 ghost use lib.Pointwise.{pointwise};
 
-use crate::copies::Copies;
+use crate::copying::Copies;
 use crate::memory::Memory;
 use crate::text::Text;
 use std::alloc::Global;
@@ -107,10 +107,10 @@ impl<T: Drop> Listed<T> {
 }
 
 impl<T: Copies + Drop> Copies for Listed<T> {
-    fn copies(&self, alloc: Global) -> Result<Listed<T>, Memory> {
+    fn copy(&self, alloc: Global) -> Result<Listed<T>, Memory> {
         let mut copy = Vec::new(alloc);
         for item in &self.items {
-            copy.push(item.copies(alloc)?)?;
+            copy.push(item.copy(alloc)?)?;
         }
         Ok(Listed { items: copy })
     }

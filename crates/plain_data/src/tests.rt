@@ -9,7 +9,7 @@ fn texts_and_lists_are_copied_and_compared(rt: HostRuntime) -> Result<(), Fail> 
     for word in ["b", "a"] {
         words.push(Text::from_str(alloc, word)?)?;
     }
-    let copy = words.copies(alloc)?;
+    let copy = words.copy(alloc)?;
     assert!(rt; copy == words);
     assert_eq!(rt; copy.len(), 2);
     assert!(rt; Text::from_str(alloc, "a")? < Text::from_str(alloc, "b")?);

@@ -7,7 +7,7 @@ ghost use Rattle.std.specs.Hash as fed;
 ghost use Rattle.std.specs.Ordering.{nat_cmp, as_partial_cmp};
 ghost use lib.Pointwise.{pointwise};
 
-use crate::copies::Copies;
+use crate::copying::Copies;
 use crate::memory::Memory;
 use std::alloc::Global;
 use std::cmp::Ordering;
@@ -62,7 +62,7 @@ impl Text {
 }
 
 impl Copies for Text {
-    fn copies(&self, alloc: Global) -> Result<Text, Memory> {
+    fn copy(&self, alloc: Global) -> Result<Text, Memory> {
         Text::from_str(alloc, self.as_str())
     }
 }

@@ -8,7 +8,7 @@ ghost use Rattle.view_spec.specs.Views.{placed, view};
 ghost use Rattle.view_spec.specs.declared.placed.PlacedRow.{PlacedRow as PlacedData};
 ghost use Rattle.flat_show.specs.Plans.{IsFlatPlan};
 
-use cell_core::{Memory, Steps};
+use cell_core::{Copies, Memory, Steps};
 use flat_show::{PlacedRows, show_placed};
 use key_map::KeyMap;
 use plan_types::Plan;

@@ -33,13 +33,13 @@ impl ShownNow for PlainFlat {
 
     fn row(&self, alloc: Global, key: &ViewKey) -> Result<Option<ShownRow>, Memory> {
         match self.shown.rows.get(key) {
-            Some(row) => Ok(Some(row.row.copies(alloc)?)),
+            Some(row) => Ok(Some(row.row.copy(alloc)?)),
             None => Ok(None),
         }
     }
 
     fn header(&self, alloc: Global) -> Result<Header, Memory> {
-        self.shown.header.copies(alloc)
+        self.shown.header.copy(alloc)
     }
 }
 
@@ -105,7 +105,7 @@ fn rows_between(
     let mut copies = Vec::new(alloc);
     let part = rows_at(rows, from, to);
     for row in part {
-        copies.push(row.row.copies(alloc)?)?;
+        copies.push(row.row.copy(alloc)?)?;
     }
     Ok(copies)
 }

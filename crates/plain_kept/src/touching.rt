@@ -5,7 +5,7 @@ ghost use Rattle.view_spec.specs.LookUps.{has_placed, keys_where, marked_in, sta
 ghost use Rattle.view_spec.specs.Touching.{key_of, touched_keys};
 
 use crate::keyed::{KeyedRows, KeyedView};
-use cell_core::Memory;
+use cell_core::{Copies, Memory};
 use delta_core::{Touched, TouchedKeys};
 use std::alloc::Global;
 use view_spec::PlacedRow;

@@ -52,7 +52,7 @@ impl ShownByKey {
     }
 
     /// How many rows are shown.
-    pub fn size(&self) -> usize
+    pub fn len(&self) -> usize
         ensures { result ≡ length self.now.rows }
     {
         self.shown.rows.as_slice().len()
@@ -66,7 +66,7 @@ impl ShownByKey {
     pub fn window(&self, alloc: Global, from: u64, to: u64) -> Result<Shown, Memory>
         ensures { IfOk result (λ part. part ≡ window from to self.now) }
     {
-        let header = self.shown.header.copies(alloc)?;
+        let header = self.shown.header.copy(alloc)?;
         let rows = rows_between(alloc, self.shown.rows.as_slice(), from, to)?;
         Ok(Shown { header, rows })
     }
@@ -93,13 +93,13 @@ impl ShownNow for ShownByKey {
 
     fn row(&self, alloc: Global, key: &ViewKey) -> Result<Option<ShownRow>, Memory> {
         match self.find(key) {
-            Some(row) => Ok(Some(row.copies(alloc)?)),
+            Some(row) => Ok(Some(row.copy(alloc)?)),
             None => Ok(None),
         }
     }
 
     fn header(&self, alloc: Global) -> Result<Header, Memory> {
-        self.shown.header.copies(alloc)
+        self.shown.header.copy(alloc)
     }
 }
 
@@ -123,7 +123,7 @@ fn rows_between(alloc: Global, rows: &[ShownRow], from: u64, to: u64) -> Result<
     let part = rows_at(rows, from, to);
     let mut copies = Vec::with_capacity(alloc, part.len())?;
     for row in part {
-        copies.push(row.copies(alloc)?)?;
+        copies.push(row.copy(alloc)?)?;
     }
     Ok(ShownRows::from_listed(Listed::from_vec(copies)))
 }

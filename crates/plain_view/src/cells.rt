@@ -12,7 +12,7 @@ pub(crate) fn header_of(alloc: Global, columns: &[Column]) -> Result<Header, Mem
 {
     let mut header = Vec::with_capacity(alloc, columns.len())?;
     for column in columns {
-        let text = column.name.copies(alloc)?;
+        let text = column.name.copy(alloc)?;
         let kind = ShownType::of(column.kind);
         header.push(HeaderColumn { text, kind })?;
     }
@@ -45,7 +45,7 @@ fn put_value(
     ensures { OnOk result (cells.new ≡ with_value cells.old column.now.name (value_of cell.now)) }
 {
     if let Some(value) = cell.value(alloc)? {
-        cells.put(column.name.copies(alloc)?, value)?;
+        cells.put(column.name.copy(alloc)?, value)?;
     }
     Ok(())
 }

@@ -6,7 +6,7 @@ ghost use Rattle.plain_view.specs.Flat.{by_place, cells_of, flat_view};
 ghost use Rattle.plain_view.specs.Rows.{flat_row};
 
 use crate::cells::{header_of, shown_cells};
-use cell_core::{Cell, Column, Listed, Memory, Steps};
+use cell_core::{Cell, Column, Copies, Listed, Memory, Steps};
 use std::alloc::{AllocError, Global};
 use std::collections::BTreeMap;
 use std::sync::ledger::Ledger;
@@ -41,7 +41,7 @@ fn cells_by_key<L: Ledger>(
         ≡ map (λ p. (p.key, cells_of columns.now p.row)) (sorted_by by_place table.now.store.pairs)) }
 {
     let mut by_key = ByKey::new(alloc);
-    for i in 0..table.size() {
+    for i in 0..table.len() {
         put_row(alloc, columns, table, i, &mut by_key, steps)?;
     }
     Ok(by_key)

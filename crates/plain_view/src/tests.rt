@@ -1,7 +1,7 @@
 ghost use Rattle.std.specs.Prelude.{◌≡◌, ◌<◌, IfOk};
 
 use crate::{ShownByKey, show, touched};
-use cell_core::{Cell, ColumnWords, Listed, Schema, Steps, Text};
+use cell_core::{Cell, ColumnWords, Copies, Listed, Schema, Steps, Text};
 use delta_core::{ShownNow, Touched};
 use row_batch::{Batch, Patch, PatchCell, Patches, check, is_shaped};
 use std::alloc::Global;
@@ -102,7 +102,7 @@ fn what_a_view_shows(rt: HostRuntime) -> Result<(), Fail> {
     assert_eq!(rt; view.position(&key), Some(2));
     let row = view.row(alloc, &key)?.ok_or("no row")?;
     assert!(rt; row.key == key && row.cells.len() == 1);
-    assert_eq!(rt; view.header(alloc)?.len(), view.size() - 1);
+    assert_eq!(rt; view.header(alloc)?.len(), view.len() - 1);
     Ok(())
 }
 

@@ -7,7 +7,7 @@ ghost use Rattle.plain_view.specs.ByKey.{keys_where, stays_in};
 ghost use Rattle.plain_view.specs.Touching.{head_touched, placed, touched_keys};
 
 use crate::by_key::ShownByKey;
-use cell_core::Memory;
+use cell_core::{Copies, Memory};
 use delta_core::{Touched, TouchedKeys};
 use std::alloc::Global;
 use view_types::{ShownRow, same_header};

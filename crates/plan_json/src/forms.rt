@@ -18,7 +18,7 @@ pub(crate) fn text(alloc: Global, value: &Raw) -> Result<Option<Text>, Memory>
     ensures { IfOk result (λ found. found ≡ text_of (raw_view value.now)) }
 {
     match value {
-        Raw::Words(text) => Ok(Some(text.copies(alloc)?)),
+        Raw::Words(text) => Ok(Some(text.copy(alloc)?)),
         _ => Ok(None),
     }
 }
@@ -63,7 +63,7 @@ fn named_texts_in(alloc: Global, members: &Members) -> Result<Option<NamedTexts>
     for (name, value) in members {
         match text(alloc, value)? {
             Some(text) => found.push(NamedText {
-                name: name.copies(alloc)?,
+                name: name.copy(alloc)?,
                 text,
             })?,
             None => return Ok(None),

@@ -81,7 +81,7 @@ fn raw_filter_op(alloc: Global, filter_op: &Option<Text>) -> Result<Option<Raw>,
 fn raw_text(alloc: Global, text: &Text) -> Result<Raw, Memory>
     ensures { IfOk result (λ raw. raw_view raw ≡ raw_words text.now) }
 {
-    Ok(Raw::Words(text.copies(alloc)?))
+    Ok(Raw::Words(text.copy(alloc)?))
 }
 
 fn raw_names(alloc: Global, names: &[Text]) -> Result<Raw, Memory>

@@ -91,19 +91,6 @@ pub struct Plan {
     pub expressions: Expressions,
 }
 
-impl Expression {
-    /// An equal expression.
-    pub fn copy(&self, alloc: Global) -> Result<Expression, Memory>
-        ensures { IfOk result (λ copy. copy ≡ self.now) }
-    {
-        Ok(Expression {
-            name: self.name.copies(alloc)?,
-            kind: self.kind,
-            tree: self.tree.copy(alloc)?,
-        })
-    }
-}
-
 impl FilterTest {
     /// An equal test.
     pub fn copy(&self, alloc: Global) -> Result<FilterTest, Memory>
@@ -116,26 +103,14 @@ impl FilterTest {
             FilterTest::AtMost(cell) => Ok(FilterTest::AtMost(cell.copy(alloc)?)),
             FilterTest::Greater(cell) => Ok(FilterTest::Greater(cell.copy(alloc)?)),
             FilterTest::AtLeast(cell) => Ok(FilterTest::AtLeast(cell.copy(alloc)?)),
-            FilterTest::Begins(text) => Ok(FilterTest::Begins(text.copies(alloc)?)),
-            FilterTest::Ends(text) => Ok(FilterTest::Ends(text.copies(alloc)?)),
-            FilterTest::Contains(text) => Ok(FilterTest::Contains(text.copies(alloc)?)),
-            FilterTest::Among(cells) => Ok(FilterTest::Among(cells.copies(alloc)?)),
-            FilterTest::NotAmong(cells) => Ok(FilterTest::NotAmong(cells.copies(alloc)?)),
+            FilterTest::Begins(text) => Ok(FilterTest::Begins(text.copy(alloc)?)),
+            FilterTest::Ends(text) => Ok(FilterTest::Ends(text.copy(alloc)?)),
+            FilterTest::Contains(text) => Ok(FilterTest::Contains(text.copy(alloc)?)),
+            FilterTest::Among(cells) => Ok(FilterTest::Among(cells.copy(alloc)?)),
+            FilterTest::NotAmong(cells) => Ok(FilterTest::NotAmong(cells.copy(alloc)?)),
             FilterTest::IsNull => Ok(FilterTest::IsNull),
             FilterTest::IsNotNull => Ok(FilterTest::IsNotNull),
         }
-    }
-}
-
-impl Filter {
-    /// An equal filter.
-    pub fn copy(&self, alloc: Global) -> Result<Filter, Memory>
-        ensures { IfOk result (λ copy. copy ≡ self.now) }
-    {
-        Ok(Filter {
-            column: self.column,
-            test: self.test.copy(alloc)?,
-        })
     }
 }
 
@@ -145,7 +120,7 @@ impl Filters {
         ensures { IfOk result (λ copy. copy ≡ self.now) }
     {
         Ok(Filters {
-            list: self.list.copies(alloc)?,
+            list: self.list.copy(alloc)?,
             every: self.every,
         })
     }
@@ -163,7 +138,7 @@ impl Plan {
             aggregates: copied(alloc, &self.aggregates)?,
             filters: self.filters.copy(alloc)?,
             sorts: copied(alloc, &self.sorts)?,
-            expressions: self.expressions.copies(alloc)?,
+            expressions: self.expressions.copy(alloc)?,
         })
     }
 }
@@ -177,13 +152,20 @@ fn copied<T: Copy>(alloc: Global, list: &Listed<T>) -> Result<Listed<T>, Memory>
 }
 
 impl Copies for Expression {
-    fn copies(&self, alloc: Global) -> Result<Expression, Memory> {
-        self.copy(alloc)
+    fn copy(&self, alloc: Global) -> Result<Expression, Memory> {
+        Ok(Expression {
+            name: self.name.copy(alloc)?,
+            kind: self.kind,
+            tree: self.tree.copy(alloc)?,
+        })
     }
 }
 
 impl Copies for Filter {
-    fn copies(&self, alloc: Global) -> Result<Filter, Memory> {
-        self.copy(alloc)
+    fn copy(&self, alloc: Global) -> Result<Filter, Memory> {
+        Ok(Filter {
+            column: self.column,
+            test: self.test.copy(alloc)?,
+        })
     }
 }

@@ -74,10 +74,10 @@ impl TreeNode {
         ensures { IfOk result (λ copy. copy ≡ self.now) }
     {
         match self {
-            TreeNode::Column(name, number) => Ok(TreeNode::Column(name.copies(alloc)?, *number)),
+            TreeNode::Column(name, number) => Ok(TreeNode::Column(name.copy(alloc)?, *number)),
             TreeNode::Number(number) => Ok(TreeNode::Number(*number)),
             TreeNode::Truth(truth) => Ok(TreeNode::Truth(*truth)),
-            TreeNode::Words(text) => Ok(TreeNode::Words(text.copies(alloc)?)),
+            TreeNode::Words(text) => Ok(TreeNode::Words(text.copy(alloc)?)),
             TreeNode::Unary(op, a) => Ok(TreeNode::Unary(*op, boxed_copy(alloc, a)?)),
             TreeNode::Binary(op, a, b) => Ok(TreeNode::Binary(
                 *op,
@@ -86,7 +86,7 @@ impl TreeNode {
             )),
             TreeNode::Call(name, arguments) => {
                 let arguments = copies_of(alloc, arguments)?;
-                Ok(TreeNode::Call(name.copies(alloc)?, arguments))
+                Ok(TreeNode::Call(name.copy(alloc)?, arguments))
             }
         }
     }

@@ -45,8 +45,8 @@ fn script(
     write_fails: u64,
 ) -> Result<Run, Memory> {
     let piece = piece.max(1);
-    let mut source = MemSource::make(bytes(alloc, input)?, piece, calls(alloc, read_fails)?);
-    let mut sink = MemSink::make(alloc, piece, calls(alloc, write_fails)?);
+    let mut source = MemSource::new(bytes(alloc, input)?, piece, calls(alloc, read_fails)?);
+    let mut sink = MemSink::new(alloc, piece, calls(alloc, write_fails)?);
     let status = pv_main(alloc, &["script"], &mut source, &mut sink);
     Ok(Run {
         code: status.code,
@@ -86,8 +86,8 @@ fn a_fault_ends_the_run_with_the_replies_before_it(rt: HostRuntime) -> Result<()
 #[test]
 fn other_words_read_and_write_nothing(rt: HostRuntime) -> Result<(), Fail> {
     let alloc = rt.alloc();
-    let mut source = MemSource::make(bytes(alloc, b"{}\n")?, 8, Listed::new(alloc));
-    let mut sink = MemSink::make(alloc, 8, Listed::new(alloc));
+    let mut source = MemSource::new(bytes(alloc, b"{}\n")?, 8, Listed::new(alloc));
+    let mut sink = MemSink::new(alloc, 8, Listed::new(alloc));
     assert_eq!(rt; pv_main(alloc, &[], &mut source, &mut sink).code, 2);
     assert_eq!(rt; pv_main(alloc, &["help"], &mut source, &mut sink).code, 2);
     assert_eq!(rt;

@@ -44,7 +44,7 @@ pub fn pv_main<S: Source, K: Sink>(
         return Status { code: 2 };
     }
     match Hub::make(alloc, LIMIT) {
-        Ok(hub) => status_of(run_script(alloc, &mut LocalCaller::make(hub), source, sink)),
+        Ok(hub) => status_of(run_script(alloc, &mut LocalCaller::new(hub), source, sink)),
         Err(_) => Status { code: 1 },
     }
 }

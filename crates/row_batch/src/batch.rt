@@ -65,10 +65,10 @@ impl PatchCell {
 }
 
 impl Copies for Pair {
-    fn copies(&self, alloc: Global) -> Result<Pair, Memory> {
+    fn copy(&self, alloc: Global) -> Result<Pair, Memory> {
         Ok(Pair {
-            key: self.key.copies(alloc)?,
-            row: self.row.copies(alloc)?,
+            key: self.key.copy(alloc)?,
+            row: self.row.copy(alloc)?,
         })
     }
 }

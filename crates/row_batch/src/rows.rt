@@ -6,7 +6,7 @@ ghost use Rattle.row_batch.specs.declared.batch.PatchCell.TheVariants as patch_c
 ghost use Rattle.row_batch.specs.Batches.{patched_cell, patched, new_row, put_at, key_in, without};
 
 use crate::batch::{Pair, PatchCell};
-use cell_core::{Cell, Listed, Memory, Row};
+use cell_core::{Cell, Copies, Listed, Memory, Row};
 use std::alloc::Global;
 
 /// The row after a patch: the old cell where the patch keeps it, and else the cell that it sets.

@@ -83,7 +83,7 @@ impl PlainTable {
         ensures copy { IfOk result (λ draft. draft ≡ self.now) }
         ensures distinct { AreDistinct (keys_of_rows self.now.pairs) }
     {
-        let pairs = self.pairs.copies(alloc)?;
+        let pairs = self.pairs.copy(alloc)?;
         Ok(Draft {
             pairs: pairs.into_vec(),
             number: self.number,

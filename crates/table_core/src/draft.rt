@@ -234,7 +234,7 @@ fn copied(alloc: Global, row: Option<&Row>) -> Result<Option<Row>, Memory>
     ensures { IfOk result (λ copy. copy ≡ option_copied row.entry) }
 {
     match row {
-        Some(row) => Ok(Some(row.copies(alloc)?)),
+        Some(row) => Ok(Some(row.copy(alloc)?)),
         None => Ok(None),
     }
 }

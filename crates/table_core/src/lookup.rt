@@ -31,7 +31,7 @@ pub fn size<V>(map: &IndexMap<Cell, V>) -> usize
     map.len()
 }
 
-/// ChangesKey the value under the key, in place of one that stands there.
+/// Sets the value under the key, in place of one that stands there.
 pub fn put<V: Drop>(map: &mut IndexMap<Cell, V>, key: Cell, value: V) -> Result<(), Memory>
     ensures { OnOk result (ChangesKey map.old.entries key (Option.Some value) map.new.entries) }
 {

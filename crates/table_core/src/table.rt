@@ -88,7 +88,7 @@ impl Table {
     }
 
     /// The number of rows.
-    pub fn size(&self) -> usize
+    pub fn len(&self) -> usize
         ensures size { result ≡ length self.now.store.pairs }
         ensures table { IsTable self.now.schema self.now.store }
     {
@@ -104,7 +104,7 @@ impl Table {
         find(&self.rows, key)
     }
 
-    /// The row at a place below `size`, in the table's own order.
+    /// The row at a place below `len`, in the table's own order.
     pub fn at<L: Ledger>(&self, i: usize, steps: &mut Steps<L>) -> Option<(&Cell, &Row)>
         ensures pair { option_map (λ p. pair_of p.0.now p.1.now) result ≡ slice_get self.now.store.pairs i }
         ensures steps { steps.new ≡ steps.old + 1 }

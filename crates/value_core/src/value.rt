@@ -98,14 +98,14 @@ impl Ord for Value {
 }
 
 impl Copies for Value {
-    fn copies(&self, alloc: Global) -> Result<Value, Memory> {
+    fn copy(&self, alloc: Global) -> Result<Value, Memory> {
         Ok(match self {
             Value::Bool(x) => Value::Bool(*x),
             Value::Whole(x) => Value::Whole(*x),
             Value::Fraction(x) => Value::Fraction(*x),
             Value::Date(x) => Value::Date(*x),
             Value::Moment(x) => Value::Moment(*x),
-            Value::Words(x) => Value::Words(x.copies(alloc)?),
+            Value::Words(x) => Value::Words(x.copy(alloc)?),
         })
     }
 }
@@ -132,7 +132,7 @@ mod tests {
         ];
         for pair in ascending.windows(2) {
             assert!(rt; pair[0] < pair[1]);
-            assert!(rt; pair[0].copies(alloc)? == pair[0]);
+            assert!(rt; pair[0].copy(alloc)? == pair[0]);
         }
         Ok(())
     }

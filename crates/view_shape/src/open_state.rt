@@ -52,7 +52,7 @@ impl OpenState {
     ghost use Rattle.view_spec.specs.Openings.{is_open as is_open_by, is_visible as is_visible_by};
 
     /// All groups of a view with so many group columns are open.
-    pub fn make(alloc: Global, groups: u32) -> OpenState
+    pub fn new(alloc: Global, groups: u32) -> OpenState
         ensures { result ≡ record { depth = groups; singles = [] } }
     {
         OpenState {

@@ -15,16 +15,6 @@ pub enum ViewKey {
 }
 
 impl ViewKey {
-    /// An equal key.
-    pub fn copy(&self, alloc: Global) -> Result<ViewKey, Memory>
-        ensures { IfOk result (λ copy. copy ≡ self.now) }
-    {
-        match self {
-            ViewKey::Row(cell) => Ok(ViewKey::Row(cell.copies(alloc)?)),
-            ViewKey::Group(path) => Ok(ViewKey::Group(path.copies(alloc)?)),
-        }
-    }
-
     /// The total order of keys: rows before groups, rows by their cell, groups value by value, and
     /// a group before those inside it.
     pub fn order(&self, other: &ViewKey) -> Ordering
@@ -35,7 +25,10 @@ impl ViewKey {
 }
 
 impl Copies for ViewKey {
-    fn copies(&self, alloc: Global) -> Result<ViewKey, Memory> {
-        self.copy(alloc)
+    fn copy(&self, alloc: Global) -> Result<ViewKey, Memory> {
+        match self {
+            ViewKey::Row(cell) => Ok(ViewKey::Row(cell.copy(alloc)?)),
+            ViewKey::Group(path) => Ok(ViewKey::Group(path.copy(alloc)?)),
+        }
     }
 }

@@ -127,10 +127,10 @@ fn place_of(cells: &[(Text, Value)], column: &Text) -> Result<usize, usize>
 
 impl Copies for ShownCells {
     /// An equal value, with room for no more than it has.
-    fn copies(&self, alloc: Global) -> Result<ShownCells, Memory> {
+    fn copy(&self, alloc: Global) -> Result<ShownCells, Memory> {
         let mut cells = Vec::with_capacity(alloc, self.cells.len())?;
         for (column, value) in &self.cells {
-            cells.push((column.copies(alloc)?, value.copies(alloc)?))?;
+            cells.push((column.copy(alloc)?, value.copy(alloc)?))?;
         }
         Ok(ShownCells { cells })
     }
@@ -157,11 +157,11 @@ impl ShownRow {
 }
 
 impl Copies for ShownRow {
-    fn copies(&self, alloc: Global) -> Result<ShownRow, Memory> {
+    fn copy(&self, alloc: Global) -> Result<ShownRow, Memory> {
         Ok(ShownRow {
             key: self.key.copy(alloc)?,
             mark: self.mark,
-            cells: self.cells.copies(alloc)?,
+            cells: self.cells.copy(alloc)?,
         })
     }
 }
@@ -214,17 +214,17 @@ impl ShownRows {
 }
 
 impl Copies for ShownRows {
-    fn copies(&self, alloc: Global) -> Result<ShownRows, Memory> {
+    fn copy(&self, alloc: Global) -> Result<ShownRows, Memory> {
         Ok(ShownRows {
-            rows: self.rows.copies(alloc)?,
+            rows: self.rows.copy(alloc)?,
         })
     }
 }
 
 impl Copies for HeaderColumn {
-    fn copies(&self, alloc: Global) -> Result<HeaderColumn, Memory> {
+    fn copy(&self, alloc: Global) -> Result<HeaderColumn, Memory> {
         Ok(HeaderColumn {
-            text: self.text.copies(alloc)?,
+            text: self.text.copy(alloc)?,
             kind: self.kind,
         })
     }
@@ -261,10 +261,10 @@ pub struct Shown {
 }
 
 impl Copies for Shown {
-    fn copies(&self, alloc: Global) -> Result<Shown, Memory> {
+    fn copy(&self, alloc: Global) -> Result<Shown, Memory> {
         Ok(Shown {
-            header: self.header.copies(alloc)?,
-            rows: self.rows.copies(alloc)?,
+            header: self.header.copy(alloc)?,
+            rows: self.rows.copy(alloc)?,
         })
     }
 }

@@ -16,7 +16,7 @@ keep-requires-clause-absent g c =
     c.requires.kept.rows (Row c.in-Some.key.now)
     ∙ absent_later c.args.plan.now (pair_of c.in-Some.key.now c.in-Some.row.now) (drop (c.args.at + 1) c.args.table.now.store.pairs)
     (subst (λ (ps : List Pair). AreDistinct (keys_of_rows ps)) (next_item c.args.table.now.store.pairs c.args.at (pair_of c.in-Some.key.now c.in-Some.row.now) (sym c.in-Some.ensures.pair))
-    (distinct_from c.args.table.now.store.pairs c.args.at c.size-size.ensures.table.distinct))
+    (distinct_from c.args.table.now.store.pairs c.args.at c.len-size.ensures.table.distinct))
 
 pub returns-in-Some : goal.returns-in-Some
 returns-in-Some g c =

@@ -25,9 +25,9 @@ put-requires-clause-new_place c =
 
 pub returns-clause-own : goal.returns-clause-own
 returns-clause-own c =
-    let e : FlatRow = (c.new-place.result, record { key = Row c.in_ok-copies.field-0; value = c.in_ok-cells.cells }) in
-    ok_all (λ (q : ViewKey). at_key live_key q c.put.new.self ≡ cond (same_key (Row c.in_ok-copies.field-0) q) (Some e) (at_key live_key q c.args.rows.now)) (AreOwn c.put.new.self) c.put.result
-    (own_put c.args.rows.now c.put.new.self (Row c.in_ok-copies.field-0) e c.requires.own
-    (own_row c.args.plan.now c.in_ok-copies.field-0 c.in_ok-full.full c.in_ok-cells.cells c.new-place.result
-    (c.new-place.ensures ∙ c.in_ok-place_of_row.ensures ∙ ap (λ z. place_of_row c.args.plan.now (pair_of z c.in_ok-full.full)) (sym c.in_ok-copies.ensures))))
+    let e : FlatRow = (c.new-place.result, record { key = Row c.in_ok-copy.field-0; value = c.in_ok-cells.cells }) in
+    ok_all (λ (q : ViewKey). at_key live_key q c.put.new.self ≡ cond (same_key (Row c.in_ok-copy.field-0) q) (Some e) (at_key live_key q c.args.rows.now)) (AreOwn c.put.new.self) c.put.result
+    (own_put c.args.rows.now c.put.new.self (Row c.in_ok-copy.field-0) e c.requires.own
+    (own_row c.args.plan.now c.in_ok-copy.field-0 c.in_ok-full.full c.in_ok-cells.cells c.new-place.result
+    (c.new-place.ensures ∙ c.in_ok-place_of_row.ensures ∙ ap (λ z. place_of_row c.args.plan.now (pair_of z c.in_ok-full.full)) (sym c.in_ok-copy.ensures))))
     c.put.ensures.told

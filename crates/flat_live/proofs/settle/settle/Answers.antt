@@ -10,21 +10,21 @@ use Rattle.flat_live.proofs.Settles.{noted}
 use Rattle.flat_live.proofs.settle.settle.Goals as goal
 
 pub keep_new-requires-clause-own : goal.keep_new-requires-clause-own
-keep_new-requires-clause-own c = own_none c.args.rows.now c.take-was.new.self (Row c.in_ok-copies.field-0) c.requires.own c.take-was.ensures.told
+keep_new-requires-clause-own c = own_none c.args.rows.now c.take-was.new.self (Row c.in_ok-copy.field-0) c.requires.own c.take-was.ensures.told
 
 pub keep_new-requires-clause-absent : goal.keep_new-requires-clause-absent
 keep_new-requires-clause-absent c =
     c.take-was.ensures.told (Row c.args.change.now.key)
-    ∙ ap (λ z. cond (same_key (Row z) (Row c.args.change.now.key)) None (at_key live_key (Row c.args.change.now.key) c.args.rows.now)) c.in_ok-copies.ensures
+    ∙ ap (λ z. cond (same_key (Row z) (Row c.args.change.now.key)) None (at_key live_key (Row c.args.change.now.key) c.args.rows.now)) c.in_ok-copy.ensures
     ∙ itself (Row c.args.change.now.key) None (at_key live_key (Row c.args.change.now.key) c.args.rows.now)
 
 pub returns-clause-touched : goal.returns-clause-touched
 returns-clause-touched c = λ k.
     ok_map c.note.result
     (λ h. h
-    ∙ noted c.args.header.now c.args.change.now.key c.in_ok-copies.field-0 k _ _ (λ q. at_key live_key q c.args.rows.now) (live_of c.args.plan.now c.args.change.now) _ c.in_ok-copies.ensures
+    ∙ noted c.args.header.now c.args.change.now.key c.in_ok-copy.field-0 k _ _ (λ q. at_key live_key q c.args.rows.now) (live_of c.args.plan.now c.args.change.now) _ c.in_ok-copy.ensures
     (c.as_ref.ensures.value ∙ c.take-was.ensures.taken)
-    (c.get-now.ensures ∙ c.in_ok-keep_new.ensures.rows (Row c.in_ok-copies.field-0)
-    ∙ ap (λ z. cond (same_key (Row c.args.change.now.key) (Row z)) (live_of c.args.plan.now c.args.change.now) (at_key live_key (Row c.in_ok-copies.field-0) c.take-was.new.self)) c.in_ok-copies.ensures
+    (c.get-now.ensures ∙ c.in_ok-keep_new.ensures.rows (Row c.in_ok-copy.field-0)
+    ∙ ap (λ z. cond (same_key (Row c.args.change.now.key) (Row z)) (live_of c.args.plan.now c.args.change.now) (at_key live_key (Row c.in_ok-copy.field-0) c.take-was.new.self)) c.in_ok-copy.ensures
     ∙ itself (Row c.args.change.now.key) _ _))
     (c.note.ensures k)

@@ -18,7 +18,7 @@ use Rattle.flat_show.proofs.flat.show_placed.Goals as goal
 pub placed_rows-requires-clause-distinct : goal.placed_rows-requires-clause-distinct
 placed_rows-requires-clause-distinct g c =
     let same : c.as_slice.result.now ≡ kept_in_order c.args.plan.now c.args.table.now.store.pairs = c.as_slice.ensures.value ∙ c.in_ok-kept.ensures in
-    subst (λ (rs : List Pair). AreDistinct (keys_of_rows rs)) (sym same) (kept_in_order-distinct c.args.plan.now c.args.table.now.store.pairs c.size-table.ensures.table.distinct)
+    subst (λ (rs : List Pair). AreDistinct (keys_of_rows rs)) (sym same) (kept_in_order-distinct c.args.plan.now c.args.table.now.store.pairs c.len-table.ensures.table.distinct)
 
 abbrev no_opening : Opening
 no_opening = record { depth = 0; singles = [] }
@@ -30,9 +30,9 @@ from_listed-requires g c =
     let columns : c.schema-2.result.now.columns ≡ c.args.table.now.schema.columns = ap (λ s. s.columns) c.schema-2.ensures in
     let rows : c.from_vec.result ≡ placed s =
     c.from_vec.ensures ∙ c.in_ok-rows.ensures
-    ∙ rows_placed s c.as_slice.result.now c.in_ok-by_place.by_place.entries c.requires.flat c.size-table.ensures.table.distinct same
+    ∙ rows_placed s c.as_slice.result.now c.in_ok-by_place.by_place.entries c.requires.flat c.len-table.ensures.table.distinct same
     (c.in_ok-by_place.ensures ∙ ap (λ (cs : List Column). entries_by_place cs c.args.plan.now c.as_slice.result.now) columns) in
-    subst (λ (rs : List PlacedRow). AreShownRows (map (λ (p : PlacedRow). p.row) rs)) (sym rows) (shown_rows s c.size-table.ensures.table.distinct)
+    subst (λ (rs : List PlacedRow). AreShownRows (map (λ (p : PlacedRow). p.row) rs)) (sym rows) (shown_rows s c.len-table.ensures.table.distinct)
 
 pub returns-clause-header : goal.returns-clause-header
 returns-clause-header g c = λ opening.
@@ -46,5 +46,5 @@ returns-clause-rows g c = λ opening.
     let same : c.as_slice.result.now ≡ kept_in_order c.args.plan.now c.args.table.now.store.pairs = c.as_slice.ensures.value ∙ c.in_ok-kept.ensures in
     let columns : c.schema-2.result.now.columns ≡ c.args.table.now.schema.columns = ap (λ s. s.columns) c.schema-2.ensures in
     c.from_listed.ensures ∙ c.from_vec.ensures ∙ c.in_ok-rows.ensures
-    ∙ rows_placed s c.as_slice.result.now c.in_ok-by_place.by_place.entries c.requires.flat c.size-table.ensures.table.distinct same
+    ∙ rows_placed s c.as_slice.result.now c.in_ok-by_place.by_place.entries c.requires.flat c.len-table.ensures.table.distinct same
     (c.in_ok-by_place.ensures ∙ ap (λ (cs : List Column). entries_by_place cs c.args.plan.now c.as_slice.result.now) columns)

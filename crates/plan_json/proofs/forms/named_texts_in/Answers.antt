@@ -17,7 +17,7 @@ loop-name-preserved c =
     let text = c.in-Some-2.text in
     let read : text_of value ≡ Some text = sym c.in_ok-text.ensures ∙ c.in-Some-2.is in
     let pushed : c.push.new.self.items ≡ found ++ named name text ∷ [] =
-    c.in_ok-push-in-Some-2.ensures.items ∙ ap (λ n. found ++ named n text ∷ []) c.in_ok-copies-in-Some-2.ensures in (
+    c.in_ok-push-in-Some-2.ensures.items ∙ ap (λ n. found ++ named n text ∷ []) c.in_ok-copy-in-Some-2.ensures in (
       ap (λ fs. with_front fs (texts_in (members_data left))) pushed
           ∙ text-push found name value (members_data left) text (texts_in (members_data c.args.members.now.entries)) read
           (ap (λ es. with_front found (texts_in (members_data es))) (sym c.in-Some.ensures.steps) ∙ l.invariant.0),

@@ -15,17 +15,17 @@ returns-clause-stands c = λ s st step. record {
   plan = st.plan;
   fits = subst (λ cs. IsFlatPlan cs s.plan) (sym step.columns) st.fits;
   header = st.header ∙ header_at s c.args.table.now st.fits.whole step.columns;
-  rows = placed_settled s c.args.self.now.header c.args.self.now.rows c.settle_all.new.rows c.args.changes.now (steps_of s c.args.self.now.plan c.args.self.now.header c.args.self.now.rows c.settle_all.new.rows c.args.changes.now c.args.table.now st.plan st.header st.fits st.rows step c.size-size.ensures.table.distinct c.len-count.ensures.live c.in_ok-settle_all.ensures.rows) ∙ placed_at s c.args.changes.now c.args.table.now step c.size-size.ensures.table.distinct;
+  rows = placed_settled s c.args.self.now.header c.args.self.now.rows c.settle_all.new.rows c.args.changes.now (steps_of s c.args.self.now.plan c.args.self.now.header c.args.self.now.rows c.settle_all.new.rows c.args.changes.now c.args.table.now st.plan st.header st.fits st.rows step c.len-size.ensures.table.distinct c.len-count.ensures.live c.in_ok-settle_all.ensures.rows) ∙ placed_at s c.args.changes.now c.args.table.now step c.len-size.ensures.table.distinct;
   own = c.in_ok-settle_all.ensures.own;
 }
 
 pub returns-clause-keys : goal.returns-clause-keys
 returns-clause-keys c = λ s st step.
-    keys_touched s c.args.self.now.header c.args.self.now.rows c.settle_all.new.rows c.args.changes.now c.settle_all.new.touched (steps_of s c.args.self.now.plan c.args.self.now.header c.args.self.now.rows c.settle_all.new.rows c.args.changes.now c.args.table.now st.plan st.header st.fits st.rows step c.size-size.ensures.table.distinct c.len-count.ensures.live c.in_ok-settle_all.ensures.rows) c.in_ok-settle_all.ensures.ascending
+    keys_touched s c.args.self.now.header c.args.self.now.rows c.settle_all.new.rows c.args.changes.now c.settle_all.new.touched (steps_of s c.args.self.now.plan c.args.self.now.header c.args.self.now.rows c.settle_all.new.rows c.args.changes.now c.args.table.now st.plan st.header st.fits st.rows step c.len-size.ensures.table.distinct c.len-count.ensures.live c.in_ok-settle_all.ensures.rows) c.in_ok-settle_all.ensures.ascending
     (λ q. c.in_ok-settle_all.ensures.touched q
     ∙ ap (λ h. told h h (at_key live_key q c.args.self.now.rows) (settled c.args.self.now.plan c.args.self.now.rows c.args.changes.now q)) c.as_slice.ensures
     ∙ ap (λ p. told c.args.self.now.header c.args.self.now.header (at_key live_key q c.args.self.now.rows) (settled p c.args.self.now.rows c.args.changes.now q)) st.plan)
-    ∙ ap (λ ps. marked (view s).rows (touched_keys (placed s) ps)) (placed_at s c.args.changes.now c.args.table.now step c.size-size.ensures.table.distinct)
+    ∙ ap (λ ps. marked (view s).rows (touched_keys (placed s) ps)) (placed_at s c.args.changes.now c.args.table.now step c.len-size.ensures.table.distinct)
 
 pub returns-clause-header : goal.returns-clause-header
 returns-clause-header c = λ s st step. c.requires.clear ∙ head_untouched s (side_at s c.args.table.now) (header_at s c.args.table.now st.fits.whole step.columns)

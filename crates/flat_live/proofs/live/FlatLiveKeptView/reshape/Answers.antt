@@ -16,7 +16,7 @@ returns-clause-stands g c = c.in_ok-other.ensures c.args._opening.now
 pub returns-clause-keys : goal.returns-clause-keys
 returns-clause-keys g c = λ s st of.
     keys_compared s (side_of c.args.plan c.args._opening.now c.args.table.now) c.args.self.now.header c.in_ok-other.other.header c.args.self.now.rows c.in_ok-other.other.rows c.compare_new.new.touched
-    of.keys c.size-size.ensures.table.distinct st.rows (c.in_ok-other.ensures c.args._opening.now).rows c.in_ok-compare_new.ensures.ascending
+    of.keys c.len-size.ensures.table.distinct st.rows (c.in_ok-other.ensures c.args._opening.now).rows c.in_ok-compare_new.ensures.ascending
     (λ q. all_met c.as_slice-first.result.now c.as_slice-last.result.now c.args.self.now.rows c.in_ok-other.other.rows c.compare_new.new.touched c.in_ok-compare_new.ensures.tells q
     ∙ ap (λ h. told h c.as_slice-last.result.now (at_key live_key q c.args.self.now.rows) (at_key live_key q c.in_ok-other.other.rows)) c.as_slice-first.ensures
     ∙ ap (λ h. told c.args.self.now.header h (at_key live_key q c.args.self.now.rows) (at_key live_key q c.in_ok-other.other.rows)) c.as_slice-last.ensures)

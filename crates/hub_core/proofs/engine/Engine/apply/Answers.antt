@@ -5,7 +5,7 @@ use Rattle.frame_types.specs.declared.reply.Body.TheVariants as body
 use Rattle.hub_ports.specs.Ports.{PortsData, taken_off}
 use Rattle.row_batch.specs.Checks.{IsChecked}
 use Rattle.hub_spec.specs.Answers.{nothing_waits, without_port}
-use Rattle.hub_spec.specs.Ports.{taken}
+use Rattle.hub_spec.specs.Ports.{taken_count}
 use Rattle.hub_spec.proofs.Giving.{err_body}
 use Rattle.hub_core.specs.Taken.{AreTaken}
 use Rattle.hub_core.proofs.Applying.{applied_gives}
@@ -20,8 +20,8 @@ returns-in_err-place-clause-gives g c = λ session past h few.
     let e = c.args.self.now in
     let port = c.args.port in
     rw (err_body _ _ c.from_residual.ensures)
-    (first_gives e.table e.version e.ports e.views past session (ask.apply port) (without_port past port ∷ nothing_waits past port ∷ []) [] (body.Applied port (taken past port + 1)) _ h
-    (behind_table past (without_port past port ∷ nothing_waits past port ∷ []) (body.Applied port (taken past port + 1)) (ap is_none h.table.schema)) (c.in_err-place.ensures.tested past h.ports))
+    (first_gives e.table e.version e.ports e.views past session (ask.apply port) (without_port past port ∷ nothing_waits past port ∷ []) [] (body.Applied port (taken_count past port + 1)) _ h
+    (behind_table past (without_port past port ∷ nothing_waits past port ∷ []) (body.Applied port (taken_count past port + 1)) (ap is_none h.table.schema)) (c.in_err-place.ensures.tested past h.ports))
 
 pub returns-in_default-clause-gives : goal.returns-in_default-clause-gives
 returns-in_default-clause-gives g c = λ session past h few.

@@ -9,11 +9,11 @@ pub returns-clause-gives : goal.returns-clause-gives
 returns-clause-gives c = λ session past h few.
     let e = c.args.self.now in
     let schema = c.schema-schema.ensures in
-    info_gives e.table e.version e.ports e.views past session c.in-Ok.columns c.in-Ok-index_name.index c.limit_of.result c.size.result c.batches_waiting.result h
+    info_gives e.table e.version e.ports e.views past session c.in-Ok.columns c.in-Ok-index_name.index c.limit_of.result c.len.result c.batches_waiting.result h
     (c.in-Ok.ensures ∙ ap (map column_words) (c.columns.ensures ∙ ap (λ s. s.columns) schema))
     (c.in-Ok-index_name.ensures ∙ ap (λ s. index_name s s.keeping) schema)
     (c.limit_of.ensures ∙ ap (λ s. limit_in s.keeping) schema)
-    c.size.ensures.size
+    c.len.ensures.size
     c.batches_waiting.ensures.batches
 
 pub returns-in_default-clause-gives : goal.returns-in_default-clause-gives

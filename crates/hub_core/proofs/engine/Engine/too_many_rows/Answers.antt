@@ -5,10 +5,10 @@ use Rattle.hub_core.proofs.engine.Engine.too_many_rows.Goals as goal
 pub returns-then-all : goal.returns-then-all
 returns-then-all g c =
     let e = c.args.self.now in
-    room_for_all e.table e.ports c.args.batch.now (omega (arith, c.size-rows.ensures.size, c.rows_waiting.ensures.rows, c.rows.ensures))
+    room_for_all e.table e.ports c.args.batch.now (omega (arith, c.len-rows.ensures.size, c.rows_waiting.ensures.rows, c.rows.ensures))
 
 pub returns-in-Free : goal.returns-in-Free
 returns-in-Free g c =
     let e = c.args.self.now in
     free_over e.table e.ports c.args.batch.now _ (ap (λ s. s.keeping) (sym c.schema.ensures) ∙ sym c.keeping.ensures.keeping ∙ c.in-Free.is)
-    (omega (arith, c.size-rows.ensures.size, c.rows_waiting.ensures.rows, c.rows.ensures)) (omega arith)
+    (omega (arith, c.len-rows.ensures.size, c.rows_waiting.ensures.rows, c.rows.ensures)) (omega arith)

@@ -34,4 +34,4 @@ unfolding HoldsViews
 returns-clause-gives c = λ past h few.
     let a = c.args in
     rows_give a.self.now.items.items a.self.now.opened past a.session a.view a.from a.to _ _ c.in_ok-live.live.now h c.in_ok-live.ensures
-    (le-ltb a.to a.from (omega arith)) c.in-Ok.ensures c.size.ensures
+    (le-ltb a.to a.from (omega arith)) c.in-Ok.ensures c.len.ensures

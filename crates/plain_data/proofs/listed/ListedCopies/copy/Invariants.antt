@@ -1,5 +1,5 @@
 use Rattle.std.proofs.Common.{◌≡◌, take}
-use Rattle.plain_data.proofs.listed.ListedCopies.copies.Given as goal
+use Rattle.plain_data.proofs.listed.ListedCopies.copy.Given as goal
 
 abbrev pub invariant-loop-item : goal.invariant-loop-item
 invariant-loop-item g l = l.copy.items ≡ take l.item-index l.item-items

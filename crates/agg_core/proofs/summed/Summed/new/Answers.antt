@@ -1,6 +1,6 @@
 use Rattle.agg_core.specs.Sums.{counted, counted_in, sum_name}
 use Rattle.agg_core.proofs.RunningSums.{reads-counted, IsTotalOf-nil}
-use Rattle.agg_core.proofs.summed.Summed.make.Goals as goal
+use Rattle.agg_core.proofs.summed.Summed.new.Goals as goal
 
 pub returns-clause-stands : goal.returns-clause-stands
 returns-clause-stands c =
