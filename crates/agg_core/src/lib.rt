@@ -21,8 +21,6 @@ mod laws;
 mod row_count;
 mod show;
 mod summed;
-#[cfg(test)]
-mod tests;
 mod total;
 mod types;
 mod walk;

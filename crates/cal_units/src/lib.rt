@@ -16,8 +16,6 @@ mod day;
 mod digits;
 mod moment;
 mod moments;
-#[cfg(test)]
-mod tests;
 
 pub use buckets::{Unit, bucket_date, bucket_moment};
 pub use dates::{DateParts, NotADate, date_parts, read_date, write_date};

@@ -10,8 +10,6 @@ mod cell;
 mod limits;
 mod raw;
 mod schema;
-#[cfg(test)]
-mod tests;
 
 pub use cal_units::{Day, Moment};
 pub use cell::{Cell, CellType, Cells, Direction, Path, Row, cell_order_laws};

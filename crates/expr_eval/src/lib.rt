@@ -9,8 +9,6 @@ mod calendar;
 mod functions;
 mod numbers;
 mod operators;
-#[cfg(test)]
-mod tests;
 mod texts;
 mod tree_value;
 

@@ -16,8 +16,6 @@ mod parser;
 mod reading;
 mod refusal;
 mod stack;
-#[cfg(test)]
-mod tests;
 mod token;
 
 pub use reading::{one_answer, parse};

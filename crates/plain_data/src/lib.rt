@@ -10,8 +10,6 @@ mod copying;
 mod listed;
 mod memory;
 mod steps;
-#[cfg(test)]
-mod tests;
 mod text;
 
 pub use copying::Copies;

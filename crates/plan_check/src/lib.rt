@@ -8,8 +8,6 @@
 mod check;
 mod kinds;
 mod number;
-#[cfg(test)]
-mod tests;
 mod typing;
 
 pub use check::check_tree;

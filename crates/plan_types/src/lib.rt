@@ -8,8 +8,6 @@
 
 mod aggregate;
 mod plan;
-#[cfg(test)]
-mod tests;
 mod tree;
 
 pub use aggregate::AggName;

@@ -132,6 +132,3 @@ impl<T: Placed + Drop> RankList<T> {
         Some(Box::into_inner(fork).into_item())
     }
 }
-
-#[cfg(test)]
-mod tests;

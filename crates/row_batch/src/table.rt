@@ -101,6 +101,3 @@ impl PlainTable {
         }
     }
 }
-
-#[cfg(test)]
-mod tests;

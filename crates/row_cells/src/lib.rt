@@ -11,6 +11,3 @@ mod rows;
 
 pub use cells::{CellRead, date_cell, integer_cell, millis_cell, moment_cell, words_cell};
 pub use rows::{placed, placed_key, refused, too_many};
-
-#[cfg(test)]
-mod tests;

@@ -155,20 +155,3 @@ fn order_of_ratios(a: u128, b: u128, c: u128, d: u128) -> Ordering
     // Of two ratios above 0 the greater has the lesser reciprocal.
     order_of_ratios(d, right, b, left)
 }
-
-#[cfg(test)]
-mod tests {
-    use super::*;
-
-    const REACH: i128 = 1 << 100;
-
-    #[test]
-    fn fractions_are_reduced_and_ordered(rt: HostRuntime) {
-        assert_eq!(rt; Fraction::reduced(-6, 4), Fraction::reduced(-3, 2));
-        assert_eq!(rt; Fraction::reduced(0, 5).d, 1);
-        let least = Fraction::reduced(1 - REACH, REACH);
-        let next = Fraction::reduced(2 - REACH, REACH - 1);
-        assert!(rt; least < next);
-        assert!(rt; Fraction::reduced(7, 3) < Fraction::reduced(5, 2));
-    }
-}

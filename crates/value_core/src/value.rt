@@ -109,31 +109,3 @@ impl Copies for Value {
         })
     }
 }
-
-#[cfg(test)]
-mod tests {
-    use super::*;
-    use std::test::Fail;
-
-    #[test]
-    fn each_stands_before_the_next(rt: HostRuntime) -> Result<(), Fail> {
-        let alloc = rt.alloc();
-        let ascending = [
-            Value::Bool(false),
-            Value::Bool(true),
-            Value::Whole(-(1 << 69)),
-            Value::Whole(3),
-            Value::Fraction(Fraction::reduced(-1, 2)),
-            Value::Fraction(Fraction::reduced(7, 3)),
-            Value::Date(Day::of(2932896)),
-            Value::Moment(Moment::of(-62135596800000)),
-            Value::Words(Text::from_str(alloc, "Z")?),
-            Value::Words(Text::from_str(alloc, "a")?),
-        ];
-        for pair in ascending.windows(2) {
-            assert!(rt; pair[0] < pair[1]);
-            assert!(rt; pair[0].copy(alloc)? == pair[0]);
-        }
-        Ok(())
-    }
-}

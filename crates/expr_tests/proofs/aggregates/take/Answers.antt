@@ -5,7 +5,7 @@ use Rattle.cell_core.specs.contracts.cell.CellOrd.TheImpl.{ghosts}
 use Rattle.agg_core.specs.Pairs.{cell_at, without_key}
 use Rattle.agg_core.proofs.Cells.{of_map}
 use Rattle.agg_core.proofs.MapSteps.{same_lookup}
-use Rattle.agg_core.proofs.tests.take.Goals as goal
+use Rattle.expr_tests.proofs.aggregates.take.Goals as goal
 
 pub take_off-requires : goal.take_off-requires
 take_off-requires g c =

@@ -4,7 +4,7 @@ use Rattle.cell_core.specs.contracts.cell.CellOrd.TheImpl.{ghosts}
 use Rattle.agg_core.specs.Pairs.{with_pair}
 use Rattle.agg_core.specs.Standing.{CanAdd}
 use Rattle.agg_core.proofs.Cells.{of_map}
-use Rattle.agg_core.proofs.tests.put.Goals as goal
+use Rattle.expr_tests.proofs.aggregates.put.Goals as goal
 
 pub returns-clause-stands : goal.returns-clause-stands
 returns-clause-stands g c =

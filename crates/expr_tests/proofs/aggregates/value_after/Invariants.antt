@@ -1,5 +1,5 @@
 use Rattle.std.proofs.Common.{◌≡◌}
-use Rattle.agg_core.proofs.tests.value_after.Given as goal
+use Rattle.expr_tests.proofs.aggregates.value_after.Given as goal
 
 abbrev pub invariant-loop-step : goal.invariant-loop-step
 invariant-loop-step g l = record {
