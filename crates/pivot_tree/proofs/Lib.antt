@@ -1,0 +1,11 @@
+pub mod Rows
+pub mod ColumnSteps
+pub mod Stepped
+pub mod GroupSteps
+pub mod Families
+pub mod SplitSteps
+pub mod NodeSteps
+pub mod TreeSteps
+pub mod Found
+pub mod Building
+pub mod UsedSteps

@@ -1,0 +1,5 @@
+pub mod Columns
+pub mod Groups
+pub mod Families
+pub mod Nodes
+pub mod Trees
