@@ -15,7 +15,7 @@ use Rattle.delta_core.specs.Rows.{at_key}
 use Rattle.delta_core.proofs.KeyLemmas.{same_key-symm}
 use Rattle.view_spec.proofs.LocalLaws.{same_found-itself}
 use Rattle.live_list.specs.Live.{live_key}
-use Rattle.flat_live.specs.Rows.{AreOwn, FlatRow, IsSettled, as_placed, changed_keys, live_of, settled, told}
+use Rattle.flat_live.specs.Rows.{FlatRow, IsSettled, as_placed, changed_keys, live_of, settled, told}
 
 pub told-itself : (header : List HeaderColumn) (o : Option FlatRow) → told header header o o ≡ None
 told-itself header o = ap (λ b. cond b None (Some (is_some o))) (same_found-itself (option_map (as_placed header) o))
@@ -55,10 +55,9 @@ settled-act plan first c cs k none = by (same_key (Row c.key) k) refl (is_among 
 
 -- ---- none, one more
 
-pub settled_none : (plan : Plan) (header : List HeaderColumn) (first : List FlatRow) → AreOwn first → IsSettled plan header first [] [] first []
-settled_none plan header first own = record {
+pub settled_none : (plan : Plan) (header : List HeaderColumn) (first : List FlatRow) → IsSettled plan header first [] [] first []
+settled_none plan header first = record {
   seen = λ k. refl;
-  own = own;
   rows = λ k. refl;
   touched = λ k. sym (told-itself header (at_key live_key k first));
 }
@@ -69,7 +68,6 @@ skipped plan header first c cs seen rows noted h found =
     let there : is_among (changed_keys cs) (Row c.key) ≡ true = sym (h.seen (Row c.key)) ∙ found in
     record {
       seen = λ k. h.seen k ∙ by k there (same_key k (Row c.key)) refl;
-      own = h.own;
       rows = λ k. h.rows k ∙ settled-skip plan first c cs k there;
       touched = λ k. h.touched k ∙ ap (told header header (at_key live_key k first)) (settled-skip plan first c cs k there);
     }
@@ -87,15 +85,13 @@ unknown plan header first c cs seen rows noted h found =
 pub acted : (plan : Plan) (header : List HeaderColumn) (first : List FlatRow) (c : RowChange) (cs : List RowChange) (seen more : List (ViewKey × Bool)) (rows now : List FlatRow) (noted noted_now : List (ViewKey × Bool))
     → IsSettled plan header first cs seen rows noted → is_some (lookup (same_key (Row c.key)) seen) ≡ false
     → ((k : ViewKey) → lookup (same_key k) more ≡ cond (same_key (Row c.key) k) (Some true) (lookup (same_key k) seen))
-    → AreOwn now
     → ((k : ViewKey) → at_key live_key k now ≡ cond (same_key (Row c.key) k) (live_of plan c) (at_key live_key k rows))
     → ((k : ViewKey) → lookup (same_key k) noted_now ≡ cond (same_key (Row c.key) k) (told header header (at_key live_key k rows) (live_of plan c)) (lookup (same_key k) noted))
     → IsSettled plan header first (c ∷ cs) more now noted_now
-acted plan header first c cs seen more rows now noted noted_now h found put own each touch =
+acted plan header first c cs seen more rows now noted noted_now h found put each touch =
     let none : is_among (changed_keys cs) (Row c.key) ≡ false = sym (h.seen (Row c.key)) ∙ found in
     record {
       seen = λ k. ap is_some (put k) ∙ met k (same_key (Row c.key) k) refl;
-      own = own;
       rows = λ k. each k ∙ ap (cond (same_key (Row c.key) k) (live_of plan c)) (h.rows k) ∙ settled-act plan first c cs k none;
       touched = λ k. touch k ∙ by k none (same_key (Row c.key) k) refl ∙ ap (told header header (at_key live_key k first)) (settled-act plan first c cs k none);
     }
@@ -114,9 +110,8 @@ acted plan header first c cs seen more rows now noted noted_now h found put own 
 pub acted_ok : {A E : Type 0} (r : Result A E) (plan : Plan) (header : List HeaderColumn) (first : List FlatRow) (c : RowChange) (cs : List RowChange) (seen more : List (ViewKey × Bool)) (rows now : List FlatRow) (noted noted_now : List (ViewKey × Bool))
     → IsSettled plan header first cs seen rows noted → is_some (lookup (same_key (Row c.key)) seen) ≡ false
     → ((k : ViewKey) → lookup (same_key k) more ≡ cond (same_key (Row c.key) k) (Some true) (lookup (same_key k) seen))
-    → OnOk r (AreOwn now)
     → ((k : ViewKey) → OnOk r (at_key live_key k now ≡ cond (same_key (Row c.key) k) (live_of plan c) (at_key live_key k rows)))
     → ((k : ViewKey) → OnOk r (lookup (same_key k) noted_now ≡ cond (same_key (Row c.key) k) (told header header (at_key live_key k rows) (live_of plan c)) (lookup (same_key k) noted)))
     → OnOk r (IsSettled plan header first (c ∷ cs) more now noted_now)
-acted_ok (Ok x) plan header first c cs seen more rows now noted noted_now h found put own each touch = acted plan header first c cs seen more rows now noted noted_now h found put own each touch
-acted_ok (Err e) plan header first c cs seen more rows now noted noted_now h found put own each touch = tt
+acted_ok (Ok x) plan header first c cs seen more rows now noted noted_now h found put each touch = acted plan header first c cs seen more rows now noted noted_now h found put each touch
+acted_ok (Err e) plan header first c cs seen more rows now noted noted_now h found put each touch = tt

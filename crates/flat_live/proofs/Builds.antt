@@ -30,12 +30,12 @@ use Rattle.cell_core.specs.Cells.{cell_order}
 use Rattle.cell_core.proofs.CellOrder.{exact}
 use Rattle.place_order.specs.PlaceLaws.{is_equal}
 use Rattle.row_batch.proofs.Lookups.{absent_at}
-use Rattle.flat_live.specs.Rows.{AreOwn, IsKeptOf, live_under}
+use Rattle.flat_live.specs.Rows.{IsKeptOf, live_under}
 use Rattle.flat_live.proofs.Stands.{placed_live_at}
 use Rattle.flat_live.proofs.Steps.{at_key-map, placed_ascend, placed_differ}
 
 kept_none : (plan : Plan) → IsKeptOf plan [] []
-kept_none plan = record { own = λ k e is. absurd (let wrong : None ≡ Some e = is in cc); rows = none }
+kept_none plan = record { rows = none }
   where
     none : (k : ViewKey) → None ≡ live_under plan [] k
     none (Row key) = refl
@@ -64,17 +64,16 @@ more plan p ps (Row q) = by (same_key (Row p.key) (Row q)) refl
         ∙ ap (λ b. live_at plan (option_map (pair_of q) (cond b (Some p.row) (row_at ps q)))) (sym (same_key-symm (Row q) (Row p.key) ∙ is))
     by false is = ap (λ b. live_at plan (option_map (pair_of q) (cond b (Some p.row) (row_at ps q)))) (sym (same_key-symm (Row q) (Row p.key) ∙ is))
 
-pub kept_more : (plan : Plan) (p : Pair) (ps : List Pair) (rows now : List FlatRow) → IsKeptOf plan ps rows → AreOwn now
+pub kept_more : (plan : Plan) (p : Pair) (ps : List Pair) (rows now : List FlatRow) → IsKeptOf plan ps rows
     → ((k : ViewKey) → at_key live_key k now ≡ cond (same_key (Row p.key) k) (live_at plan (Some p)) (at_key live_key k rows)) → IsKeptOf plan (p ∷ ps) now
-kept_more plan p ps rows now h own each = record {
-  own = own;
+kept_more plan p ps rows now h each = record {
   rows = λ k. each k ∙ ap (cond (same_key (Row p.key) k) (live_at plan (Some p))) (h.rows k) ∙ more plan p ps k;
 }
 
-pub kept_more_ok : {A E : Type 0} (r : Result A E) (plan : Plan) (p : Pair) (ps : List Pair) (rows now : List FlatRow) → IsKeptOf plan ps rows → OnOk r (AreOwn now)
+pub kept_more_ok : {A E : Type 0} (r : Result A E) (plan : Plan) (p : Pair) (ps : List Pair) (rows now : List FlatRow) → IsKeptOf plan ps rows
     → ((k : ViewKey) → OnOk r (at_key live_key k now ≡ cond (same_key (Row p.key) k) (live_at plan (Some p)) (at_key live_key k rows))) → OnOk r (IsKeptOf plan (p ∷ ps) now)
-kept_more_ok (Ok x) plan p ps rows now h own each = kept_more plan p ps rows now h own each
-kept_more_ok (Err e) plan p ps rows now h own each = tt
+kept_more_ok (Ok x) plan p ps rows now h each = kept_more plan p ps rows now h each
+kept_more_ok (Err e) plan p ps rows now h each = tt
 
 -- all rows kept: the view's list
 pub placed_kept : (s : Side) (header : List HeaderColumn) (rows : List FlatRow) → is_flat s.plan ≡ true → s.plan.split_by ≡ [] → header ≡ map (head_at s.columns s.plan []) s.plan.columns → HasKeys s

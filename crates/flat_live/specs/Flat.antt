@@ -10,7 +10,7 @@ use Rattle.view_spec.specs.Laws.{HasKeys}
 use Rattle.view_spec.specs.Views.{Side, placed, view}
 use Rattle.flat_show.specs.Plans.{IsFlatPlan}
 use Rattle.view_kept.specs.Parts.{shown_by_parts}
-use Rattle.flat_live.specs.Rows.{AreOwn, FlatRow, as_placed, shown_row}
+use Rattle.flat_live.specs.Rows.{FlatRow, as_placed, shown_row}
 use Rattle.flat_live.specs.declared.live.FlatLive.{FlatLive}
 
 abbrev pub flat_shown : FlatLive → Shown
@@ -22,7 +22,6 @@ pub record StandsFlat (v : FlatLive) (s : Side) : Type 0 where
   pub fits : IsFlatPlan s.columns s.plan
   pub header : v.header ≡ (view s).header
   pub rows : map (as_placed v.header) v.rows ≡ placed s
-  pub own : AreOwn v.rows
 
 abbrev pub fits_flat : FlatLive → Plan → TableData → Type 0
 fits_flat v plan table = IsFlatPlan table.schema.columns plan

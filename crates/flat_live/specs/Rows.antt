@@ -53,16 +53,6 @@ live_row plan p = (place_of_row plan p, record { key = Row p.key; value = map (c
 abbrev pub live_at : Plan → Option Pair → Option FlatRow
 live_at plan o = option_map (live_row plan) (kept_at plan o)
 
--- the place ends with the key
-pub record IsOwn (e : FlatRow) : Type 0 where
-  pub ranks : List Rank
-  pub cell : Cell
-  pub key : e.1.key ≡ Row cell
-  pub place : e.0 ≡ ranks ++ Asc (value_of cell) ∷ []
-
-abbrev pub AreOwn : List FlatRow → Type 0
-AreOwn rows = (k : ViewKey) (e : FlatRow) → at_key live_key k rows ≡ Some e → IsOwn e
-
 -- ---- changes: the last one at each key counts
 
 abbrev pub changed_keys : List RowChange → List ViewKey
@@ -84,7 +74,6 @@ told first last was now = cond (same_found (option_map (as_placed first) was) (o
 -- the last changes at these keys were acted on: the keys seen, the rows now, and the keys touched
 pub record IsSettled (plan : Plan) (header : List HeaderColumn) (first : List FlatRow) (changes : List RowChange) (seen_keys : List (ViewKey × Bool)) (now : List FlatRow) (noted : List (ViewKey × Bool)) : Type 0 where
   pub seen : (k : ViewKey) → is_some (lookup (same_key k) seen_keys) ≡ is_among (changed_keys changes) k
-  pub own : AreOwn now
   pub rows : (k : ViewKey) → at_key live_key k now ≡ settled plan first changes k
   pub touched : (k : ViewKey) → lookup (same_key k) noted ≡ told header header (at_key live_key k first) (settled plan first changes k)
 
@@ -96,7 +85,6 @@ live_under plan pairs (Row key) = live_at plan (option_map (pair_of key) (row_at
 live_under plan pairs (Group path) = None
 
 pub record IsKeptOf (plan : Plan) (pairs : List Pair) (now : List FlatRow) : Type 0 where
-  pub own : AreOwn now
   pub rows : (k : ViewKey) → at_key live_key k now ≡ live_under plan pairs k
 
 -- ---- two lists, each under its header

@@ -5,7 +5,7 @@ ghost use Rattle.delta_core.specs.Rows.{at_key};
 ghost use Rattle.view_types.specs.Keys.{key_order, same_key};
 ghost use Rattle.view_types.specs.declared.key.ViewKey.{ViewKey as KeyData};
 ghost use Rattle.live_list.specs.Live.{live_key};
-ghost use Rattle.flat_live.specs.Rows.{AreOwn, FlatRow, IsSettled, settled, told};
+ghost use Rattle.flat_live.specs.Rows.{FlatRow, IsSettled, settled, told};
 
 use crate::settle::settle;
 use cell_core::{Copies, Memory, Row};
@@ -30,9 +30,7 @@ pub(crate) fn settle_all(
     rows: &mut LiveList<Row>,
     touched: &mut TouchedKeys,
 ) -> Result<(), Memory>
-    requires own { AreOwn rows.old }
     requires empty { touched.old ≡ [] }
-    ensures own { OnOk result (AreOwn rows.new) }
     ensures rows { (k : KeyData) → OnOk result (at_key live_key k rows.new ≡ settled plan.now rows.old changes.now k) }
     ensures touched { (k : KeyData) → OnOk result (lookup (same_key k) touched.new ≡ told header.now header.now (at_key live_key k rows.old) (settled plan.now rows.old changes.now k)) }
     ensures ascending { OnOk result (IsStrictlySortedBy key_order (keys_of touched.new)) }

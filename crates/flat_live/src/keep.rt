@@ -6,7 +6,7 @@ ghost use Rattle.view_types.specs.declared.key.ViewKey.{ViewKey as KeyData};
 ghost use Rattle.view_types.specs.declared.key.ViewKey.TheVariants.{Row as RowKey};
 ghost use Rattle.view_spec.specs.Filters.{cell_in};
 ghost use Rattle.live_list.specs.Live.{live_key};
-ghost use Rattle.flat_live.specs.Rows.{AreOwn, live_at};
+ghost use Rattle.flat_live.specs.Rows.{live_at};
 
 use cell_core::{Cell, Copies, Listed, Memory, Row};
 use flat_show::{full_row, place_of_row};
@@ -24,9 +24,7 @@ pub(crate) fn keep(
     row: &Row,
     rows: &mut LiveList<Row>,
 ) -> Result<(), Memory>
-    requires own { AreOwn rows.old }
     requires absent { at_key live_key (RowKey key.now) rows.old ≡ None }
-    ensures own { OnOk result (AreOwn rows.new) }
     ensures rows { (k : KeyData) → OnOk result (at_key live_key k rows.new ≡ cond (same_key (RowKey key.now) k) (live_at plan.now (Some (pair_of key.now row.now))) (at_key live_key k rows.old)) }
 {
     let full = full_row(alloc, plan, row)?;

@@ -73,7 +73,6 @@ impl FlatLive {
         changes: &[RowChange],
         touched: &mut Touched,
     ) -> Result<(), Memory>
-        requires stood { (s : Side) × StandsFlat self.old s × IsStep s changes.now table.now }
         requires empty { touched.old.keys ≡ [] }
         requires clear { touched.old.header ≡ false }
         ensures stands { (s : Side) → StandsFlat self.old s → IsStep s changes.now table.now → OnOk result (StandsFlat self.new (side_at s table.now)) }

@@ -6,7 +6,7 @@ ghost use Rattle.view_types.specs.Keys.{same_key};
 ghost use Rattle.view_types.specs.declared.key.ViewKey.{ViewKey as KeyData};
 ghost use Rattle.view_types.specs.declared.key.ViewKey.TheVariants.{Row as RowKey};
 ghost use Rattle.live_list.specs.Live.{live_key};
-ghost use Rattle.flat_live.specs.Rows.{AreOwn, live_of, told};
+ghost use Rattle.flat_live.specs.Rows.{live_of, told};
 
 use crate::keep::keep;
 use crate::showing::{FlatEntry, stays};
@@ -27,9 +27,7 @@ pub(crate) fn settle(
     rows: &mut LiveList<Row>,
     touched: &mut TouchedKeys,
 ) -> Result<(), Memory>
-    requires own { AreOwn rows.old }
     requires unknown { lookup (same_key (RowKey change.now.key)) touched.old ≡ None }
-    ensures own { OnOk result (AreOwn rows.new) }
     ensures rows { (k : KeyData) → OnOk result (at_key live_key k rows.new ≡ cond (same_key (RowKey change.now.key) k) (live_of plan.now change.now) (at_key live_key k rows.old)) }
     ensures touched { (k : KeyData) → OnOk result (lookup (same_key k) touched.new
         ≡ cond (same_key (RowKey change.now.key) k) (told header.now header.now (at_key live_key k rows.old) (live_of plan.now change.now)) (lookup (same_key k) touched.old)) }
@@ -48,9 +46,7 @@ fn keep_new(
     change: &RowChange,
     rows: &mut LiveList<Row>,
 ) -> Result<(), Memory>
-    requires own { AreOwn rows.old }
     requires absent { at_key live_key (RowKey change.now.key) rows.old ≡ None }
-    ensures own { OnOk result (AreOwn rows.new) }
     ensures rows { (k : KeyData) → OnOk result (at_key live_key k rows.new ≡ cond (same_key (RowKey change.now.key) k) (live_of plan.now change.now) (at_key live_key k rows.old)) }
 {
     match &change.new {

@@ -67,7 +67,7 @@ pub applied_gives : (before after : TableData) (version number : ℕ) (kept : Po
     → seq ≡ min ((port_at kept.live place).queue.accepted - length (port_at kept.live place).queue.waiting + 1) (2 ^ 64 - 1)
     → AreLosses past lost
     → ((asking n at on done : ℕ) (request : Ask) → HoldsTable after number (with_step asking request n at (applied_body on done lost) past)
-    → HoldsViews now (with_step asking request n at (applied_body on done lost) past))
+    → HoldsViews now after (with_step asking request n at (applied_body on done lost) past))
     → Gives past session (ask.apply port) (applied_body port seq lost) (HoldsParts after number (record kept { live = taken_off kept.live place }) now)
 applied_gives before after version number kept was now past session port place seq b lost h few lt at front same put next seq_is losses refreshed =
     let p = port_at kept.live place in

@@ -92,7 +92,7 @@ left_given past session h = plain_given past session ask.leave (body.Left 0) ref
 
 -- what a new engine holds
 pub fresh_holds : (t : TableData) (v : Views) (past : List PastStep) → HoldsSchema (Some t.schema) past → t.store ≡ empty_store
-    → (HasNoViews past → HoldsViews v past) → HoldsParts t 0 no_ports v past
+    → (HasNoViews past → HoldsViews v t past) → HoldsParts t 0 no_ports v past
 fresh_holds t v past h store views =
     let e = h.1 in
     record {

@@ -47,7 +47,7 @@ behind_table past rest granted made = ap (λ b. first_of (refused_if b no_table 
 refused_stays : (t : TableData) (version : ℕ) (kept : PortsData) (v : Views) (past : List PastStep) (session n at : ℕ) (request : Ask) (why : Refusal)
     → HoldsParts t version kept v past → HoldsParts t version kept v (with_step session request n at (body.Refused why) past)
 refused_stays t version kept v past session n at request why h =
-    record { table = h.table; ports = h.ports; views = views_stay v past session n at request (body.Refused why) refl h.views }
+    record { table = h.table; ports = h.ports; views = views_stay v t past session n at request (body.Refused why) refl h.views }
 
 -- a refusal other than for want of memory is the plain answer
 pub refused_gives : (t : TableData) (version : ℕ) (kept : PortsData) (v : Views) (past : List PastStep) (session : ℕ) (request : Ask) (why : Refusal)
@@ -107,7 +107,7 @@ table_stays t version kept past session n at of request _ is table ports = absur
 
 -- the table and the ports stay where an answer is about views
 pub views_give : (t : TableData) (version : ℕ) (kept : PortsData) (before after : Views) (past : List PastStep) (session of : ℕ) (request : Ask) (answer : Body)
-    → HoldsParts t version kept before past → IsOfViews of answer → Gives past session request answer (HoldsViews after)
+    → HoldsParts t version kept before past → IsOfViews of answer → Gives past session request answer (HoldsViews after t)
     → Gives past session request answer (HoldsParts t version kept after)
 views_give t version kept before after past session of request answer h about gives = record {
   given = gives.given;

@@ -41,7 +41,7 @@ made_gives t version kept v past session h free = record {
   holds = λ n at. record {
     table = h.table;
     ports = made_ports kept past session ask.port n at kept.made h.ports;
-    views = views_stay v past session n at ask.port (body.Port kept.made) refl h.views;
+    views = views_stay v t past session n at ask.port (body.Port kept.made) refl h.views;
   };
 }
 
@@ -62,7 +62,7 @@ closed_gives t version kept v past session port place h lt number is_open = reco
     table = h.table;
     ports = subst (λ p. HoldsPorts (record kept { live = closed_at kept.live place }) (with_step session (ask.close_port port) n at (body.PortClosed p) past)) number
         (closed_ports kept past session (ask.close_port port) n at place h.ports lt);
-    views = views_stay v past session n at (ask.close_port port) (body.PortClosed port) refl h.views;
+    views = views_stay v t past session n at (ask.close_port port) (body.PortClosed port) refl h.views;
   };
 }
 
@@ -81,6 +81,6 @@ queued_gives t version kept v past session port place seq request b h lt number 
         table = h.table;
         ports = subst (λ p. HoldsPorts (record kept { live = put_on kept.live place b }) (with_step session request n at (body.Queued p seq) past)) number
             (queued_ports kept past session request n at place seq b h.ports lt is_open asked);
-        views = views_stay v past session n at request (body.Queued port seq) refl h.views;
+        views = views_stay v t past session n at request (body.Queued port seq) refl h.views;
       };
     }

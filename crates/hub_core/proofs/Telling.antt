@@ -30,5 +30,5 @@ info_gives t version kept v past session columns index limit size waits h column
     let same : tells ≡ body.Info columns index limit size waits = rw (columns_are, index_is, limit_is, size_is, waits_are, pairs, batches) refl in
     record {
       given = plain_given past session ask.info _ refl (plain ∙ same);
-      holds = λ n at. record { table = h.table; ports = h.ports; views = views_stay v past session n at ask.info (body.Info columns index limit size waits) refl h.views };
+      holds = λ n at. record { table = h.table; ports = h.ports; views = views_stay v t past session n at ask.info (body.Info columns index limit size waits) refl h.views };
     }

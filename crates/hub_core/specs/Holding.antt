@@ -45,7 +45,7 @@ HoldsPorts kept past = KeepsPorts kept (ports.ports past) (ports.batches_accepte
 pub record HoldsParts (t : TableData) (version : ℕ) (kept : PortsData) (v : Views) (past : List PastStep) : Type 0 where
   pub table : HoldsTable t version past
   pub ports : HoldsPorts kept past
-  pub views : HoldsViews v past
+  pub views : HoldsViews v t past
 
 abbrev pub HoldsAll : Engine → List PastStep → Type 0
 HoldsAll e past = HoldsParts e.table e.version e.ports e.views past

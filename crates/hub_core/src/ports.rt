@@ -107,10 +107,16 @@ impl Engine {
             return Err(refused::memory());
         };
         let seq = self.ports.queue(place).taken().saturating_add(1);
-        drop(self.table.apply(prepared));
+        let changes = self.table.apply(prepared);
         drop(self.ports.take_front(place));
         self.version = self.version.saturating_add(1);
-        let lost = self.views.refresh(&self.table, self.version, room, steps);
+        let lost = self.views.refresh(
+            &self.table,
+            changes.as_slice(),
+            self.version,
+            room,
+            steps,
+        );
         Ok(applied(port, seq, lost))
     }
 }

@@ -1,7 +1,8 @@
 -- What a client holds that folds each delta is what the view showed at its base.
-use Rattle.std.proofs.Common.{◌≡◌, ℕ, ◌+◌, eqb, Bool, true, false, ◌||◌, ◌&&◌, cond, List, [], ◌∷◌, ◌++◌, length, map, filter, fold, find, All, Option, Some, None, refl, sym, ap, ◌∙◌, subst, ◌⊎◌, inl, inr}
+use Rattle.std.proofs.Common.{◌≡◌, ℕ, ◌+◌, eqb, Bool, true, false, ◌||◌, ◌&&◌, cond, List, [], ◌∷◌, ◌++◌, length, map, filter, fold, find, All, Option, Some, None, Result, Ok, Err, refl, sym, ap, ◌∙◌, subst, ◌⊎◌, inl, inr}
 use Rattle.std.specs.Prelude.{is_some, not, unwrap_or, option_and_then}
-use Rattle.std.specs.List.{list_any}
+use Rattle.std.specs.List.{IsDistinct, list_any}
+use Rattle.std.specs.List.Sorted.{IsStrictlySortedBy}
 use Rattle.std.proofs.lemmas.Bool.{eqb-true, eq-eqb}
 use Rattle.std.proofs.lemmas.List.Elements.{All-nil, All-head, All-tail, All-map, All-weaker, All-push, All-filter}
 use Rattle.std.proofs.lemmas.List.Folds.{list_any-append}
@@ -19,20 +20,27 @@ use Rattle.frame_types.specs.declared.reply.Refusal.{Refusal}
 use Rattle.view_types.specs.declared.key.ViewKey.{ViewKey}
 use Rattle.view_types.specs.declared.shown.Shown.{Shown}
 use Rattle.delta_core.specs.KeySets.{is_among, with_keys}
-use Rattle.delta_core.specs.Laws.{Agree}
+use Rattle.delta_core.specs.Deltas.{marked}
+use Rattle.delta_core.specs.Laws.{Agree, FoldsTo}
 use Rattle.delta_core.specs.declared.delta.Delta.{Delta}
 use Rattle.delta_core.specs.declared.folding.Held.{Held}
 use Rattle.delta_core.proofs.KeySetLemmas.{is_among-with_keys}
-use Rattle.plain_view.specs.Flat.{flat_view}
-use Rattle.plain_view.specs.Touching.{PlacedRow, head_touched, key_of, placed, touched_keys}
-use Rattle.plain_view.proofs.TouchLaws.{IsSorted, sorted_view, sorted_nothing, touched_agree, touched_keys-itself, head_touched-exact, head_touched-itself, delta_restores}
+use Rattle.plan_types.specs.declared.plan.Plan.{Plan}
+use Rattle.view_types.proofs.SameRows.{same_header_is_equal, same_header_itself}
+use Rattle.view_spec.specs.Touching.{key_of, touched_keys}
+use Rattle.view_spec.specs.Views.{by_place}
+use Rattle.view_spec.specs.declared.placed.PlacedRow.{PlacedRow}
+use Rattle.view_spec.proofs.TouchLaws.{IsPlaced, delta_restores, is_placed, rows_of, touched_agree, touched_keys-itself}
+use Rattle.view_spec.proofs.ViewLaws.{same_keys}
 use Rattle.hub_spec.specs.Past.{PastStep}
-use Rattle.hub_spec.specs.Bases.{base, base_or_none, delta_in, dirty, edit_by, fold_in, folded_after, folded_in, head_dirty, is_base, mark_in, no_base, placed_in, shown_by, shown_in, tells_of}
-use Rattle.hub_spec.specs.HeldViews.{HeldView, held_view, is_view, lost_at, opened_view, views, with_view}
+use Rattle.hub_spec.specs.Bases.{base, base_or_none, delta_in, dirty, edit_by, fold_in, folded_after, folded_in, head_dirty, header_differs, is_base, mark_in, no_base, placed_by, placed_in, shown_by, shown_in, tells_of}
+use Rattle.hub_spec.specs.HeldViews.{HeldView, held_view, is_view, lost_at, opened_count, opened_view, shown, side, views, with_opened, with_view}
 use Rattle.hub_spec.specs.Histories.{Entry, past_of, answer_to}
 use Rattle.hub_spec.specs.Laws.{DeltasFold}
 use Rattle.hub_spec.specs.Ports.{Applied, batches_applied, version_after}
+use Rattle.hub_spec.specs.Plans.{plan_asked}
 use Rattle.hub_spec.specs.Rows.{put_applied, rows, schema_or_none}
+use Rattle.hub_spec.proofs.Numbering.{IsNumbered, are_new, found_new, numbers_given}
 use Rattle.hub_spec.proofs.Said.{Says, says_answer}
 
 -- ---- no key stands twice among the rows
@@ -46,13 +54,17 @@ distinct_rows past = (keys_kept (schema_or_none past) empty_store (batches_appli
 
 -- ---- what a view shows
 
-pub sorted_by_view : (past : List PastStep) (v : Option HeldView) → IsSorted (shown_by past v)
-sorted_by_view past None = sorted_nothing
-sorted_by_view past (Some v) = sorted_view (schema_or_none past) (rows past) (distinct_rows past)
+none_placed : IsPlaced []
+unfolding IsStrictlySortedBy IsDistinct
+none_placed = record { ascends = tt; distinct = tt }
 
-pub shown_of_some : (past : List PastStep) (v : Option HeldView) → is_some v ≡ true → shown_by past v ≡ flat_view (schema_or_none past) (rows past)
-shown_of_some past None is = absurd (let wrong : false ≡ true = is in cc)
-shown_of_some past (Some v) is = refl
+pub is_placed_by : (past : List PastStep) (v : Option HeldView) → IsPlaced (placed_by past v)
+is_placed_by past None = none_placed
+is_placed_by past (Some v) = is_placed (side past v) (distinct_rows past)
+
+pub rows_placed : (past : List PastStep) (v : Option HeldView) → rows_of (placed_by past v) ≡ (shown_by past v).rows
+rows_placed past None = refl
+rows_placed past (Some v) = refl
 
 -- ---- which views are held
 
@@ -118,18 +130,23 @@ any_lost session number at lost (v ∷ vs) = by (list_any (λ (w : ℕ × ℕ). 
 abbrev step : ℕ → Ask → ℕ → ℕ → Body → PastStep
 step session request n at answer = record { session = session; request = request; reply = record { n = n; version = at; body = answer } }
 
+opened_before : (session view bound s number : ℕ) (asked : Result Plan Refusal) (vs : List HeldView) → Has s number (with_opened session view bound asked vs) ≡ true
+    → ((eqb view number && eqb session s) ≡ true) ⊎ (Has s number vs ≡ true)
+opened_before session view bound s number (Err why) vs h = inr h
+opened_before session view bound s number (Ok plan) vs h =
+    let w : HeldView = opened_view session view plan bound in
+    let found = sym (has_is_any (is_view s number) (vs ++ w ∷ [])) ∙ h in
+    elim (or_cases (list_any (is_view s number) vs) (is_view s number w) (sym (any_more (is_view s number) vs w) ∙ found)) [
+      | inl before ↦ inr (has_is_any (is_view s number) vs ∙ before)
+      | inr here ↦ inl (and_swap (eqb view number) (eqb session s) ∙ here)
+    ]
+
 -- a view that is held was held before, or has its base in this step
 held_before : (past : List PastStep) (session n at : ℕ) (request : Ask) (answer : Body) (s number : ℕ)
     → is_some (held_view (step session request n at answer ∷ past) s number) ≡ true
     → (is_base s number (step session request n at answer) ≡ true) ⊎ (is_some (held_view past s number) ≡ true)
 held_before past session n at (ask.open_view plan bound) (body.Opened edit shown view) s number h =
-    let found = sym (has_is_any (is_view s number) (views past ++ opened_view session view plan bound ∷ [])) ∙ h in
-    let parts = or_cases (list_any (is_view s number) (views past)) (is_view s number (opened_view session view plan bound))
-    (sym (any_more (is_view s number) (views past) (opened_view session view plan bound)) ∙ found) in
-    elim parts [
-      | inl before ↦ inr (has_is_any (is_view s number) (views past) ∙ before)
-      | inr here ↦ inl (and_swap (eqb view number) (eqb session s) ∙ here)
-    ]
+    opened_before session view bound s number (plan_asked (schema_or_none past) plan) (views past) h
 held_before past session n at request (body.Opened edit shown view) s number h = inr h
 held_before past session n at request (body.AppliedLosing lost port seq) s number h =
     let at_loss : ℕ = version_after past (body.AppliedLosing lost port seq) in
@@ -160,8 +177,12 @@ unedited_lost at lost vs all = All-map IsUnedited (lost_at at lost) vs (All-weak
         by true = h
         by false = h
 
+unedited_opened : (session number bound : ℕ) (asked : Result Plan Refusal) (vs : List HeldView) → All IsUnedited vs → All IsUnedited (with_opened session number bound asked vs)
+unedited_opened session number bound (Ok plan) vs all = All-push IsUnedited vs (opened_view session number plan bound) all refl
+unedited_opened session number bound (Err why) vs all = all
+
 unedited_step : (past : List PastStep) (session : ℕ) (answer : Body) (request : Ask) (vs : List HeldView) → All IsUnedited vs → All IsUnedited (with_view past session answer request vs)
-unedited_step past session (body.Opened edit shown view) (ask.open_view plan bound) vs all = All-push IsUnedited vs (opened_view session view plan bound) all refl
+unedited_step past session (body.Opened edit shown view) (ask.open_view plan bound) vs all = unedited_opened session view bound (plan_asked (schema_or_none past) plan) vs all
 unedited_step past session (body.Opened edit shown view) request vs all = all
 unedited_step past session (body.AppliedLosing lost port seq) request vs all = unedited_lost (version_after past (body.AppliedLosing lost port seq)) lost vs all
 unedited_step past session (body.Closed view) request vs all = All-filter (λ v. not (is_view session view v)) IsUnedited vs all
@@ -189,9 +210,22 @@ neither : (a b : Bool) → (a || b) ≡ false → (a ≡ false) × (b ≡ false)
 neither true b h = absurd (let wrong : true ≡ false = h in cc)
 neither false b h = (refl, h)
 
+-- the rows of a view at its base, at their places
+abbrev pub placed_at_base : List PastStep → ℕ → ℕ → List PlacedRow
+placed_at_base [] s number = []
+placed_at_base (d ∷ past) s number = cond (is_base s number d) (placed_in (d ∷ past) s number) (placed_at_base past s number)
+
+pub rows_at_base : (past : List PastStep) (s number : ℕ) → rows_of (placed_at_base past s number) ≡ (base_or_none past s number).shown.rows
+rows_at_base [] s number = refl
+rows_at_base (d ∷ past) s number = by (is_base s number d) refl (rows_at_base past s number)
+  where
+    by : (b : Bool) → is_base s number d ≡ b → rows_of (placed_at_base past s number) ≡ (base_or_none past s number).shown.rows
+        → rows_of (placed_at_base (d ∷ past) s number) ≡ (base_or_none (d ∷ past) s number).shown.rows
+    by true here before = rw here (rows_placed (d ∷ past) (held_view (d ∷ past) s number))
+    by false other before = rw other before
+
 -- outside the dirty keys a view shows what it showed at its base
-pub agree_since : (past : List PastStep) (s number : ℕ)
-    → Agree key_of (dirty past s number) (placed (base_or_none past s number).shown.rows) (placed (shown_in past s number).rows)
+pub agree_since : (past : List PastStep) (s number : ℕ) → Agree key_of (dirty past s number) (placed_at_base past s number) (placed_in past s number)
 agree_since [] s number = λ k off. refl
 agree_since (d ∷ past) s number = by (is_base s number d) refl (agree_since past s number)
   where
@@ -199,12 +233,19 @@ agree_since (d ∷ past) s number = by (is_base s number d) refl (agree_since pa
     touched = touched_keys (placed_in past s number) (placed_in (d ∷ past) s number)
 
     by : (b : Bool) → is_base s number d ≡ b
-        → Agree key_of (dirty past s number) (placed (base_or_none past s number).shown.rows) (placed_in past s number)
-        → Agree key_of (dirty (d ∷ past) s number) (placed (base_or_none (d ∷ past) s number).shown.rows) (placed (shown_in (d ∷ past) s number).rows)
+        → Agree key_of (dirty past s number) (placed_at_base past s number) (placed_in past s number)
+        → Agree key_of (dirty (d ∷ past) s number) (placed_at_base (d ∷ past) s number) (placed_in (d ∷ past) s number)
     by true here before = rw here (λ k off. refl)
     by false other before = rw other (λ k off.
         let parts = neither (is_among (dirty past s number) k) (is_among touched k) (sym (is_among-with_keys (dirty past s number) touched k) ∙ off) in
         before k parts.0 ∙ touched_agree (placed_in past s number) (placed_in (d ∷ past) s number) k parts.1)
+
+same_headers : (a b : Shown) → header_differs a b ≡ false → a.header ≡ b.header
+same_headers a b h = same_header_is_equal a.header b.header (same_of _ h)
+  where
+    same_of : (b : Bool) → not b ≡ false → b ≡ true
+    same_of true h = refl
+    same_of false h = absurd (let wrong : true ≡ false = h in cc)
 
 -- and so is its header, where no step touched that
 pub headers_since : (past : List PastStep) (s number : ℕ) → head_dirty past s number ≡ false
@@ -216,21 +257,21 @@ headers_since (d ∷ past) s number = by (is_base s number d) refl (headers_sinc
     Before = head_dirty past s number ≡ false → (base_or_none past s number).shown.header ≡ (shown_in past s number).header
 
     touched : Bool
-    touched = head_touched (shown_in past s number) (shown_in (d ∷ past) s number)
+    touched = header_differs (shown_in past s number) (shown_in (d ∷ past) s number)
 
     by : (b : Bool) → is_base s number d ≡ b → Before → head_dirty (d ∷ past) s number ≡ false
         → (base_or_none (d ∷ past) s number).shown.header ≡ (shown_in (d ∷ past) s number).header
     by true here before = rw here (λ none. refl)
     by false other before = rw other (λ none.
         let parts = neither (head_dirty past s number) touched none in
-        before parts.0 ∙ head_touched-exact (shown_in past s number) (shown_in (d ∷ past) s number) parts.1)
+        before parts.0 ∙ same_headers (shown_in past s number) (shown_in (d ∷ past) s number) parts.1)
 
-pub sorted_base : (past : List PastStep) (s number : ℕ) → IsSorted (base_or_none past s number).shown
-sorted_base [] s number = sorted_nothing
-sorted_base (d ∷ past) s number = by (is_base s number d) refl (sorted_base past s number)
+is_placed_at_base : (past : List PastStep) (s number : ℕ) → IsPlaced (placed_at_base past s number)
+is_placed_at_base [] s number = none_placed
+is_placed_at_base (d ∷ past) s number = by (is_base s number d) refl (is_placed_at_base past s number)
   where
-    by : (b : Bool) → is_base s number d ≡ b → IsSorted (base_or_none past s number).shown → IsSorted (base_or_none (d ∷ past) s number).shown
-    by true here before = rw here (sorted_by_view (d ∷ past) (held_view (d ∷ past) s number))
+    by : (b : Bool) → is_base s number d ≡ b → IsPlaced (placed_at_base past s number) → IsPlaced (placed_at_base (d ∷ past) s number)
+    by true here before = rw here (is_placed_by (d ∷ past) (held_view (d ∷ past) s number))
     by false other before = rw other before
 
 pub record Kept (past : List PastStep) (s number : ℕ) : Type 0 where
@@ -254,34 +295,41 @@ delta_folds : (past : List PastStep) (s number : ℕ) → is_some (held_view pas
     → option_and_then (fold_in (delta_in past s number)) (folded_in past s number) ≡ Some (record { shown = shown_in past s number; mark = mark_in past s number })
 delta_folds past s number some kept =
     let was : Held = base_or_none past s number in
-    let restored = delta_restores was.shown (shown_in past s number) (dirty past s number) (head_dirty past s number) was.mark (mark_in past s number)
-    (sorted_base past s number) (sorted_by_view past (held_view past s number)) (agree_since past s number) (headers_since past s number) in
-    let now : folded_in past s number ≡ Some was = kept.folds ∙ based_at past s number (kept.based some) in
-    rw now (rw restored.0 (ap Some restored.1))
+    let now : Shown = shown_in past s number in
+    let keys : List ViewKey = dirty past s number in
+    let head : Bool = head_dirty past s number in
+    let placed_restored = delta_restores (placed_at_base past s number) (placed_in past s number) keys head was.shown.header now.header was.mark (mark_in past s number)
+    (is_placed_at_base past s number) (is_placed_by past (held_view past s number)) (agree_since past s number) (headers_since past s number) in
+    let restored : FoldsTo (marked was.shown.rows keys) head was.shown now was.mark (mark_in past s number) =
+    subst (λ rs. FoldsTo (marked was.shown.rows keys) head was.shown (record { header = now.header; rows = rs }) was.mark (mark_in past s number)) (rows_placed past (held_view past s number))
+    (subst (λ rs. FoldsTo (marked rs keys) head (record { header = was.shown.header; rows = rs }) (record { header = now.header; rows = rows_of (placed_in past s number) }) was.mark (mark_in past s number))
+    (rows_at_base past s number) placed_restored) in
+    let held : folded_in past s number ≡ Some was = kept.folds ∙ based_at past s number (kept.based some) in
+    rw held (rw restored.0 (ap Some restored.1))
 
 -- where a step is the base of a view, what a client holds of it is what is shown then
 folds_base : (past : List PastStep) (s n at number : ℕ) (request : Ask) (answer : Body) → Says past s request answer → at ≡ version_after past answer
-    → tells_of number answer ≡ true → Kept past s number
+    → tells_of number answer ≡ true → All (IsNumbered past) (views past) → Kept past s number
     → folded_after number at answer (folded_in past s number)
     ≡ Some (record { shown = shown_in (step s request n at answer ∷ past) s number; mark = mark_in (step s request n at answer ∷ past) s number })
-folds_base past s n at number (ask.open_view plan bound) (body.Opened edit shown view) says version here kept =
-    let after = step s (ask.open_view plan bound) n at (body.Opened edit shown view) ∷ past in
-    let ours : is_view s number (opened_view s view plan bound) ≡ true = rw (eq-eqb s s refl, here) refl in
-    let some : is_some (held_view after s number) ≡ true =
-    has_is_any (is_view s number) (views after) ∙ any_more (is_view s number) (views past) (opened_view s view plan bound)
-    ∙ or_right (list_any (is_view s number) (views past)) _ ours in
-    let all : shown_in after s number ≡ flat_view (schema_or_none past) (rows past) = shown_of_some after (held_view after s number) some in
-    rw here (ap Some (same_held _ _ _ _ _ _ (says.2 ∙ sym all) version (says.1 ∙ sym (no_edit after s number))))
-folds_base past s n at number _ (body.Opened edit shown view) says version here kept = absurd says.0
-folds_base past s n at number request (body.Resync bound edit shown view) says version here kept =
+folds_base past s n at number (ask.open_view plan bound) (body.Opened edit seen view) says version here given kept =
+    let after = step s (ask.open_view plan bound) n at (body.Opened edit seen view) ∷ past in
+    let same : view ≡ number = eqb-true view number here in
+    let w : HeldView = opened_view s view says.plan bound in
+    let all : held_view after s number ≡ Some w =
+    ap (λ asked. find (is_view s number) (with_opened s view bound asked (views past))) says.read
+    ∙ found_new (is_view s number) (views past) w (subst (λ i. All (λ v. is_view s i v ≡ false) (views past)) (sym says.next ∙ same) (are_new past s given)) (rw (eq-eqb s s refl, here) refl) in
+    rw here (ap Some (same_held _ _ _ _ _ _ (says.shows ∙ sym (ap (shown_by after) all)) version (says.unedited ∙ sym (no_edit after s number))))
+folds_base past s n at number _ (body.Opened edit seen view) says version here given kept = absurd says
+folds_base past s n at number request (body.Resync bound edit shown view) says version here given kept =
     let same : view ≡ number = eqb-true view number here in
     rw here (ap Some (same_held _ _ _ _ _ _ (says.1 ∙ ap (λ i. shown_in past s i) same) version (says.0 ∙ ap (λ i. edit_by (held_view past s i)) same)))
-folds_base past s n at number request (body.Delta delta view) says version here kept =
+folds_base past s n at number request (body.Delta delta view) says version here given kept =
     let same : view ≡ number = eqb-true view number here in
     let is : delta ≡ delta_in past s number = says.1 ∙ ap (λ i. delta_in past s i) same in
     let some : is_some (held_view past s number) ≡ true = ap (λ i. is_some (held_view past s i)) (sym same) ∙ says.0 in
     rw (here, is) (delta_folds past s number some kept)
-folds_base past s n at number request _ says version here kept = absurd (let wrong : false ≡ true = here in cc)
+folds_base past s n at number request _ says version here given kept = absurd (let wrong : false ≡ true = here in cc)
 
 -- where it isn't, that stays
 folds_other : (number at : ℕ) (answer : Body) (was : Option Held) → tells_of number answer ≡ false → folded_after number at answer was ≡ was
@@ -310,14 +358,15 @@ stays_folded past session n at s number request answer other = by (eqb session s
     ]
 
 kept_at_base : (past : List PastStep) (session n at s number : ℕ) (request : Ask) (answer : Body) → Says past session request answer → at ≡ version_after past answer
-    → is_base s number (step session request n at answer) ≡ true → Kept past s number → Kept (step session request n at answer ∷ past) s number
-kept_at_base past session n at s number request answer says version here kept =
+    → is_base s number (step session request n at answer) ≡ true → All (IsNumbered past) (views past) → Kept past s number
+    → Kept (step session request n at answer ∷ past) s number
+kept_at_base past session n at s number request answer says version here given kept =
     let after = step session request n at answer ∷ past in
     let parts = and_true (tells_of number answer) (eqb session s) here in
     let ours : session ≡ s = eqb-true session s parts.1 in
     let SaysOf : ℕ → Type 0 = λ i. Says past i request answer in
     record {
-      folds = rw (here, parts.1) (rw ours (folds_base past s n at number request answer (subst SaysOf ours says) version parts.0 kept));
+      folds = rw (here, parts.1) (rw ours (folds_base past s n at number request answer (subst SaysOf ours says) version parts.0 given kept));
       based = λ some. rw here refl;
     }
 
@@ -334,11 +383,11 @@ kept_between past session n at s number request answer other kept =
     }
 
 kept_step : (past : List PastStep) (session n at s number : ℕ) (request : Ask) (answer : Body) → Says past session request answer → at ≡ version_after past answer
-    → Kept past s number → Kept (step session request n at answer ∷ past) s number
-kept_step past session n at s number request answer says version kept = by (is_base s number (step session request n at answer)) refl
+    → All (IsNumbered past) (views past) → Kept past s number → Kept (step session request n at answer ∷ past) s number
+kept_step past session n at s number request answer says version given kept = by (is_base s number (step session request n at answer)) refl
   where
     by : (b : Bool) → is_base s number (step session request n at answer) ≡ b → Kept (step session request n at answer ∷ past) s number
-    by true here = kept_at_base past session n at s number request answer says version here kept
+    by true here = kept_at_base past session n at s number request answer says version here given kept
     by false other = kept_between past session n at s number request answer other kept
 
 pub kept : (limit : ℕ) (h : List Entry) (s number : ℕ) → Kept (past_of limit h) s number
@@ -349,7 +398,7 @@ kept limit [] s number = record {
 kept limit (e ∷ h) s number =
     let past = past_of limit h in
     let reply : ReplyData = answer_to limit past e.session e.request e.choice in
-    kept_step past e.session reply.n reply.version s number e.request reply.body (says_answer limit past e.session e.request e.choice) refl (kept limit h s number)
+    kept_step past e.session reply.n reply.version s number e.request reply.body (says_answer limit past e.session e.request e.choice) refl (numbers_given limit h) (kept limit h s number)
 
 pub deltas_fold : DeltasFold
 deltas_fold limit h session number = (kept limit h session number).folds
@@ -359,8 +408,8 @@ deltas_fold limit h session number = (kept limit h session number).folds
 pub touches_nothing : (past : List PastStep) (rows : List PlacedRow) (s number : ℕ) → with_keys (dirty past s number) (touched_keys rows rows) ≡ dirty past s number
 touches_nothing past rows s number = ap (with_keys (dirty past s number)) (touched_keys-itself rows)
 
-pub touches_no_header : (past : List PastStep) (shows : Shown) (s number : ℕ) → (head_dirty past s number || head_touched shows shows) ≡ head_dirty past s number
-touches_no_header past shows s number = ap (λ b. head_dirty past s number || b) (head_touched-itself shows) ∙ or_false_right (head_dirty past s number)
+pub touches_no_header : (past : List PastStep) (shows : Shown) (s number : ℕ) → (head_dirty past s number || header_differs shows shows) ≡ head_dirty past s number
+touches_no_header past shows s number = ap (λ same. head_dirty past s number || not same) (same_header_itself shows.header) ∙ or_false_right (head_dirty past s number)
 
 pub same_folded : (past : List PastStep) (session n at s number : ℕ) (request : Ask) (why : Refusal)
     → folded_in (step session request n at (body.Refused why) ∷ past) s number ≡ folded_in past s number

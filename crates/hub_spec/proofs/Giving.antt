@@ -2,6 +2,7 @@
 use Rattle.std.proofs.Common.{◌≡◌, ℕ, eqb, leb, ltb, Bool, true, false, ◌||◌, List, [], ◌∷◌, length, Option, Some, None, Result, Ok, Err, if◌then◌else◌, refl, sym, ap, ◌∙◌}
 use Rattle.std.specs.Prelude.{ℤ, is_none, is_some, not, option_map}
 use Rattle.std.specs.Result.{IsErr, IsErrAnd}
+use Rattle.cell_core.specs.RawData.{RawData}
 use Rattle.cell_core.specs.Schemas.{SchemaData, schema_of}
 use Rattle.cell_core.specs.declared.schema.ColumnWords.{ColumnWords}
 use Rattle.cell_core.specs.declared.schema.SchemaRefused.{SchemaRefused}
@@ -10,18 +11,21 @@ use Rattle.row_batch.specs.declared.batch.Batch.{Batch}
 use Rattle.row_batch.specs.declared.refused.BatchRefused.{BatchRefused}
 use Rattle.frame_types.specs.Asks.{Ask}
 use Rattle.frame_types.specs.Asks as ask
-use Rattle.frame_types.specs.Refusals.{no_table, table_set, view_lost}
+use Rattle.frame_types.specs.Refusals.{bad_frame, no_table, table_set, view_lost}
 use Rattle.frame_types.specs.declared.reply.Body.{Body}
 use Rattle.frame_types.specs.declared.reply.Body.TheVariants as body
+use Rattle.frame_types.specs.declared.reply.Cause.TheVariants.{Unbuilt}
 use Rattle.frame_types.specs.declared.reply.Refusal.{Refusal}
 use Rattle.hub_spec.specs.Past.{PastStep}
-use Rattle.hub_spec.specs.Answers.{first_of, refused_if, refusals, grant, without_table, faulty_schema, faulty_rows, full_table_for, lost_view, take_answer, window_of}
+use Rattle.hub_spec.specs.Answers.{first_of, refused_if, refusals, grant, without_table, faulty_plan, faulty_schema, faulty_rows, full_table_for, lost_view, opened_answer, take_answer, window_of}
 use Rattle.hub_spec.specs.Bases.{delta_in, dirty}
 use Rattle.hub_spec.specs.Giving.{IsGiven, body_in, plain_in}
 use Rattle.hub_spec.specs.HeldViews.{HeldView, held_view, shown}
 use Rattle.hub_spec.specs.Histories.{choice_of, plenty, want, may_choose, takes_none}
+use Rattle.hub_spec.specs.Plans.{is_empty_plan, plan_asked, whole_plan}
 use Rattle.hub_spec.specs.Ports.{schema as schema_made}
 use Rattle.hub_spec.specs.Reading.{read_batch, batch_asked}
+use Rattle.hub_spec.specs.Rows.{schema_or_none}
 
 -- an answer that names no choice is the plain one
 pub plain_given : (past : List PastStep) (session : ℕ) (request : Ask) (answer : Body) → choice_of answer ≡ plenty
@@ -70,6 +74,13 @@ lost_wants (Some v) = by v.lost
     by None = tt
     by (Some version) = refl
 
+plan_wants : (schema : SchemaData) (plan : RawData) → MayWant (faulty_plan (plan_asked schema plan))
+plan_wants schema plan = by (is_empty_plan plan)
+  where
+    by : (empty : Bool) → MayWant (faulty_plan (if empty then Ok (whole_plan schema) else Err (bad_frame Unbuilt)))
+    by true = tt
+    by false = refl
+
 -- ---- requests that take memory
 
 -- such a request is answered without memory for its answer's sake alone
@@ -103,6 +114,14 @@ window_wants : (past : List PastStep) (view first end : ℕ) (v : Option HeldVie
 window_wants past view first end None = refl
 window_wants past view first end (Some v) = refl
 
+opened_wants : (past : List PastStep) (session : ℕ) (plan : RawData) (bound : ℕ) (schema : SchemaData)
+    → takes_none (ask.open_view plan bound) (opened_answer past session bound (plan_asked schema plan)) ≡ false
+opened_wants past session plan bound schema = by (is_empty_plan plan)
+  where
+    by : (empty : Bool) → takes_none (ask.open_view plan bound) (opened_answer past session bound (if empty then Ok (whole_plan schema) else Err (bad_frame Unbuilt))) ≡ false
+    by true = refl
+    by false = refl
+
 abbrev pub TakesMemory : Ask → Type 0
 TakesMemory request = takes_none request body.Table ≡ false
 
@@ -135,7 +154,8 @@ may_want past session (ask.clear port) takes made =
 may_want past session (ask.apply port) takes made =
     wants_behind past session (ask.apply port) _ refl (λ why. refl) (if_wants _ _ refl, (if_wants _ _ refl, tt)) refl made
 may_want past session (ask.open_view plan bound) takes made =
-    wants_behind past session (ask.open_view plan bound) _ refl (λ why. refl) (if_wants _ _ refl, (if_wants _ _ refl, tt)) refl made
+    wants_behind past session (ask.open_view plan bound) _ refl (λ why. refl) (plan_wants (schema_or_none past) plan, (if_wants _ _ refl, tt))
+    (opened_wants past session plan bound (schema_or_none past)) made
 may_want past session (ask.take view wait) takes made =
     wants_behind past session (ask.take view wait) _ refl (λ why. refl) (if_wants _ _ refl, (lost_wants _, tt))
     (taken_wants past session view wait (held_view past session view)) made

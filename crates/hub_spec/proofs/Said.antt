@@ -1,31 +1,42 @@
 -- What an answer says of what was before it.
-use Rattle.std.proofs.Common.{◌≡◌, ℕ, eqb, leb, List, [], ◌∷◌, length, Bool, true, false, Option, Some, None, refl}
+use Rattle.std.proofs.Common.{◌≡◌, ℕ, eqb, leb, List, [], ◌∷◌, length, Bool, true, false, Option, Some, None, Result, Ok, Err, refl}
 use Rattle.std.specs.Prelude.{is_some, if◌then◌else◌}
+use Rattle.cell_core.specs.RawData.{RawData}
 use Rattle.frame_types.specs.Asks.{Ask}
 use Rattle.frame_types.specs.Asks as ask
 use Rattle.frame_types.specs.Refusals.{empty, history_full}
 use Rattle.frame_types.specs.declared.reply.Body.{Body}
 use Rattle.frame_types.specs.declared.reply.Body.TheVariants as body
 use Rattle.frame_types.specs.declared.reply.Refusal.{Refusal}
-use Rattle.plain_view.specs.Flat.{flat_view}
+use Rattle.plan_types.specs.declared.plan.Plan.{Plan}
+use Rattle.view_types.specs.declared.shown.Shown.{Shown}
 use Rattle.hub_spec.specs.Past.{PastStep}
-use Rattle.hub_spec.specs.Answers.{first_of, refused_if, refusals, grant, plain, take_answer, window_of}
+use Rattle.hub_spec.specs.Answers.{faulty_plan, first_of, refused_if, refusals, grant, opened_answer, plain, take_answer, window_of}
 use Rattle.hub_spec.specs.Bases.{delta_in, edit_by, shown_by}
-use Rattle.hub_spec.specs.HeldViews.{HeldView, held_view, shown}
+use Rattle.hub_spec.specs.HeldViews.{HeldView, held_view, opened_count, opened_view, shown}
 use Rattle.hub_spec.specs.Histories.{Choice, plenty, want, losing, answer_under, losing_in}
+use Rattle.hub_spec.specs.Plans.{plan_asked}
 use Rattle.hub_spec.specs.Ports.{waiting}
-use Rattle.hub_spec.specs.Rows.{schema_or_none, rows}
+use Rattle.hub_spec.specs.Rows.{schema_or_none}
 
-abbrev pub IsOpening : Ask → Type 0
-IsOpening (ask.open_view plan bound) = Unit {0}
-IsOpening _ = ⊥
+-- a view of a plan that could be read is opened under the next number, and all that it shows is told
+pub record IsOpened (past : List PastStep) (session : ℕ) (asked : Result Plan Refusal) (edit : ℕ) (seen : Shown) (view : ℕ) : Type 0 where
+  pub plan : Plan
+  pub read : asked ≡ Ok plan
+  pub unedited : edit ≡ 0
+  pub shows : seen ≡ shown past (opened_view 0 0 plan 0)
+  pub next : view ≡ opened_count past session
+
+abbrev pub IsOpening : List PastStep → ℕ → Ask → ℕ → Shown → ℕ → Type 0
+IsOpening past session (ask.open_view plan bound) edit seen view = IsOpened past session (plan_asked (schema_or_none past) plan) edit seen view
+IsOpening past session _ edit seen view = ⊥
 
 -- where a batch was applied, one waited on that port; an opening and a resynchronisation have all that is shown; a
 -- delta and a resynchronisation are of a view that is held
 abbrev pub Says : List PastStep → ℕ → Ask → Body → Type 0
 Says past session request (body.Applied port seq) = eqb (length (waiting past port)) 0 ≡ false
 Says past session request (body.AppliedLosing lost port seq) = eqb (length (waiting past port)) 0 ≡ false
-Says past session request (body.Opened edit shown view) = IsOpening request × (edit ≡ 0) × (shown ≡ flat_view (schema_or_none past) (rows past))
+Says past session request (body.Opened edit seen view) = IsOpening past session request edit seen view
 Says past session request (body.Delta delta view) = (is_some (held_view past session view) ≡ true) × (delta ≡ delta_in past session view)
 Says past session request (body.Resync bound edit shown view) =
     (edit ≡ edit_by (held_view past session view)) × (shown ≡ shown_by past (held_view past session view))
@@ -60,9 +71,14 @@ says_taken : (past : List PastStep) (session view : ℕ) (request : Ask) (v : Op
 says_taken past session view request None is = tt
 says_taken past session view request (Some v) is = says_within past session view request v _ is
 
+says_opened : (past : List PastStep) (session : ℕ) (plan : RawData) (bound : ℕ) (asked : Result Plan Refusal) → plan_asked (schema_or_none past) plan ≡ asked
+    → faulty_plan asked ≡ None → Says past session (ask.open_view plan bound) (opened_answer past session bound asked)
+says_opened past session plan bound (Err why) is none = absurd (let wrong : Some why ≡ None = none in cc)
+says_opened past session plan bound (Ok p) is none = record { plan = p; read = is; unedited = refl; shows = refl; next = refl }
+
 says_granted : (past : List PastStep) (session : ℕ) (request : Ask) → NoneRefuses (refusals past session request) → Says past session request (grant past session request)
 says_granted past session (ask.apply port) none = not_refused (eqb (length (waiting past port)) 0) empty none.1.1.0
-says_granted past session (ask.open_view plan bound) none = (tt, refl, refl)
+says_granted past session (ask.open_view plan bound) none = says_opened past session plan bound (plan_asked (schema_or_none past) plan) refl none.1.0
 says_granted past session (ask.take view wait) none = says_taken past session view (ask.take view wait) (held_view past session view) refl
 says_granted past session (ask.rows view first end) none = says_window past session (ask.rows view first end) (held_view past session view) view first end
 says_granted past session _ none = tt

@@ -27,7 +27,6 @@ use Rattle.view_types.specs.declared.shown.ShownRow.{ShownRow}
 use Rattle.view_types.specs.declared.shown.ShownType.TheVariants.{Integer}
 use Rattle.delta_core.specs.declared.delta.Mark.{Mark}
 use Rattle.delta_core.specs.declared.delta.Put.{Put}
-use Rattle.plain_view.specs.Flat.{flat_view}
 use Rattle.frame_types.specs.Asks.{Ask}
 use Rattle.frame_types.specs.Asks as ask
 use Rattle.frame_types.specs.Refusals.{no_table, table_set, bad_schema, no_port, port_closed, too_many_ports, bad_rows, not_indexed, port_full, table_full, empty, bad_frame, history_full, too_many_views, no_view, view_lost, bad_window, memory}
@@ -36,6 +35,10 @@ use Rattle.frame_types.specs.declared.reply.Body.{Body}
 use Rattle.frame_types.specs.declared.reply.Body.TheVariants as body
 use Rattle.frame_types.specs.declared.reply.Cause.TheVariants as cause
 use Rattle.frame_types.specs.declared.request.FrameCause.TheVariants as frame
+use Rattle.view_spec.specs.Openings.{first_opening}
+use Rattle.view_spec.specs.Views.{Side, view}
+use Rattle.row_batch.specs.declared.batch.Pair.{Pair}
+use Rattle.hub_spec.specs.Plans.{whole_plan}
 use Rattle.hub_spec.specs.Room.{different}
 use Rattle.hub_spec.specs.Histories.{Entry, Choice, plenty, want, losing, answer, past_of, is_allowed, history_after, entry_of}
 
@@ -546,8 +549,11 @@ five = sets (pos 0) ∷ sets (pos 1) ∷ sets (pos 2) ∷ sets (pos 3) ∷ sets 
 abbrev shown_v : ℤ → ℤ → ShownRow
 shown_v key v = record { key = Row (Int key); mark = false; cells = (codes "v", Whole v) ∷ [] }
 
+abbrev all_of : SchemaData → List Pair → Side
+all_of schema pairs = record { columns = schema.columns; plan = whole_plan schema; opening = first_opening (whole_plan schema); pairs = pairs }
+
 -- in three slots the fourth row takes the place of the first
-pub three_slots : (flat_view (integers (Limited 3)) (put_batch (integers (Limited 3)) empty_store (batch.Update five)).pairs).rows
+pub three_slots : (view (all_of (integers (Limited 3)) (put_batch (integers (Limited 3)) empty_store (batch.Update five)).pairs)).rows
     ≡ shown_v (pos 0) (pos 3) ∷ shown_v (pos 1) (pos 4) ∷ shown_v (pos 2) (pos 2) ∷ []
 unfolding value_order
 three_slots = refl

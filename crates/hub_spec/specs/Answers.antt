@@ -1,9 +1,8 @@
 -- What a request is answered where memory is plenty: the first refusal whose condition holds, and
 -- else what is granted.
-use Rattle.std.specs.Prelude.{ℕ, ◌+◌, ◌==◌, nat_lt, nat_le, List, [], ◌∷◌, ◌++◌, length, map, slice_get, Bool, true, false, not, Option, Some, None, is_some, is_none, option_map, option_and_then, Result, Ok, Err, if◌then◌else◌}
+use Rattle.std.specs.Prelude.{ℕ, ◌+◌, ◌-◌, ◌==◌, nat_lt, nat_le, List, [], ◌∷◌, ◌++◌, length, map, take, drop, slice_get, Bool, true, false, not, Option, Some, None, is_some, is_none, option_map, option_and_then, Result, Ok, Err, if◌then◌else◌}
 use Rattle.cell_core.specs.Keepings.{is_indexed}
 use Rattle.cell_core.specs.Limits.{max_rows}
-use Rattle.cell_core.specs.RawData.{RawData, raw_map, no_raw_members}
 use Rattle.cell_core.specs.Schemas.{SchemaData, schema_of, type_name}
 use Rattle.cell_core.specs.declared.schema.Column.{Column}
 use Rattle.cell_core.specs.declared.schema.ColumnWords.{ColumnWords}
@@ -18,15 +17,15 @@ use Rattle.frame_types.specs.Asks as ask
 use Rattle.frame_types.specs.Refusals.{frame_cause, bad_frame, table_set, bad_schema, too_many_ports, no_port, port_closed, bad_rows, not_indexed, port_full, table_full, history_full, empty, too_many_views, no_view, view_lost, bad_window, no_table, memory}
 use Rattle.frame_types.specs.declared.reply.Body.{Body}
 use Rattle.frame_types.specs.declared.reply.Body.TheVariants as body
-use Rattle.frame_types.specs.declared.reply.Cause.TheVariants.{Unbuilt}
 use Rattle.frame_types.specs.declared.reply.Refusal.{Refusal}
-use Rattle.plain_view.specs.Flat.{window}
+use Rattle.plan_types.specs.declared.plan.Plan.{Plan}
 use Rattle.view_types.specs.declared.shown.Shown.{Shown}
 use Rattle.hub_spec.specs.Past.{PastStep}
 use Rattle.hub_spec.specs.Bases.{delta_in, dirty}
 use Rattle.hub_spec.specs.HeldViews.{HeldView, views, held_view, held_by, opened_count, opened_view, shown}
 use Rattle.hub_spec.specs.Limits.{max_waiting, max_ports, max_views}
 use Rattle.hub_spec.specs.Ports.{schema as schema_made, ports, has_port, is_closed, used_ports, batches_accepted, taken_count, waiting, all_waiting}
+use Rattle.hub_spec.specs.Plans.{plan_asked}
 use Rattle.hub_spec.specs.Reading.{read_batch, batch_asked}
 use Rattle.hub_spec.specs.Room.{rows_with}
 use Rattle.hub_spec.specs.Rows.{schema_or_none, rows}
@@ -98,13 +97,10 @@ abbrev pub lost_view : Option HeldView → Option Refusal
 lost_view None = None
 lost_view (Some v) = option_map view_lost v.lost
 
-abbrev pub is_empty_plan : RawData → Bool
-is_empty_plan (raw_map no_raw_members) = true
-is_empty_plan other = false
-
--- a plan other than `{}` isn't built yet
-abbrev pub unbuilt_plan : RawData → Option Refusal
-unbuilt_plan plan = refused_if (not (is_empty_plan plan)) (bad_frame Unbuilt)
+-- why there is no plan
+abbrev pub faulty_plan : Result Plan Refusal → Option Refusal
+faulty_plan (Ok plan) = None
+faulty_plan (Err why) = Some why
 
 -- ---- refusals, in the order in which they are tested
 
@@ -141,7 +137,7 @@ refusals past session (ask.apply port) =
     ∷ []
 refusals past session (ask.open_view plan bound) =
     without_table past
-    ∷ unbuilt_plan plan
+    ∷ faulty_plan (plan_asked (schema_or_none past) plan)
     ∷ refused_if (nat_le max_views (length (views past))) too_many_views
     ∷ []
 refusals past session (ask.take view wait) =
@@ -170,6 +166,10 @@ take_answer past session view (Some v) =
     if nat_le (length (dirty past session view)) v.bound then body.Delta (delta_in past session view) view
     else body.Resync v.bound v.edit (shown past v) view
 
+-- the rows at positions from `first` up to and without `end`
+abbrev pub window : ℕ → ℕ → Shown → Shown
+window first end shown = record shown { rows = take (end - first) (drop first shown.rows) }
+
 abbrev pub window_of : Option HeldView → (HeldView → Shown) → ℕ → ℕ → ℕ → Body
 window_of None shows view first end = body.Refused no_view
 window_of (Some v) shows view first end = body.Rows v.edit first (window first end (shows v)) (length (shows v).rows) view
@@ -195,6 +195,11 @@ abbrev pub info_of : SchemaData → ℕ → ℕ → Body
 info_of made size waits =
     body.Info (map column_words made.columns) (index_name made made.keeping) (limit_in made.keeping) size waits
 
+abbrev pub opened_answer : List PastStep → ℕ → ℕ → Result Plan Refusal → Body
+opened_answer past session bound (Err why) = body.Refused why
+opened_answer past session bound (Ok plan) =
+    body.Opened 0 (shown past (opened_view session (opened_count past session) plan bound)) (opened_count past session)
+
 abbrev pub grant : List PastStep → ℕ → Ask → Body
 grant past session (ask.table columns index limit) = body.Table
 grant past session ask.port = body.Port (ports past)
@@ -207,8 +212,7 @@ grant past session (ask.remove port keys) = queued past port
 grant past session (ask.clear port) = queued past port
 grant past session (ask.close_port port) = body.PortClosed port
 grant past session (ask.apply port) = body.Applied port (taken_count past port + 1)
-grant past session (ask.open_view plan bound) =
-    body.Opened 0 (shown past (opened_view session (opened_count past session) plan bound)) (opened_count past session)
+grant past session (ask.open_view plan bound) = opened_answer past session bound (plan_asked (schema_or_none past) plan)
 grant past session (ask.take view wait) = take_answer past session view (held_view past session view)
 grant past session (ask.rows view first end) = window_of (held_view past session view) (shown past) view first end
 grant past session (ask.close view) = body.Closed view

@@ -1,7 +1,7 @@
 -- What a client was last told of a view, and what was touched since.
 --
 -- The base of a view is the last step that opened it, or that was answered by a delta or a resynchronisation of it.
-use Rattle.std.specs.Prelude.{ℕ, ◌==◌, List, [], ◌∷◌, Bool, true, false, ◌&&◌, ◌||◌, Option, Some, None, is_none, option_and_then, unwrap_or, if◌then◌else◌}
+use Rattle.std.specs.Prelude.{ℕ, ◌==◌, List, [], ◌∷◌, Bool, true, false, not, ◌&&◌, ◌||◌, Option, Some, None, is_none, option_and_then, unwrap_or, if◌then◌else◌}
 use Rattle.view_types.specs.declared.key.ViewKey.{ViewKey}
 use Rattle.view_types.specs.declared.shown.Shown.{Shown}
 use Rattle.delta_core.specs.Deltas.{delta_of, marked}
@@ -12,9 +12,12 @@ use Rattle.delta_core.specs.declared.delta.Mark.{Mark}
 use Rattle.delta_core.specs.declared.folding.Held.{Held}
 use Rattle.frame_types.specs.declared.reply.Body.{Body}
 use Rattle.frame_types.specs.declared.reply.Body.TheVariants as body
-use Rattle.plain_view.specs.Touching.{PlacedRow, head_touched, placed, touched_keys}
+use Rattle.view_types.specs.Same.{same_header}
+use Rattle.view_spec.specs.Touching.{touched_keys}
+use Rattle.view_spec.specs.Views.{placed}
+use Rattle.view_spec.specs.declared.placed.PlacedRow.{PlacedRow}
 use Rattle.hub_spec.specs.Past.{PastStep}
-use Rattle.hub_spec.specs.HeldViews.{HeldView, held_view, shown}
+use Rattle.hub_spec.specs.HeldViews.{HeldView, held_view, shown, side}
 use Rattle.hub_spec.specs.Ports.{version}
 
 -- ---- what a view shows, and since when
@@ -29,9 +32,17 @@ shown_by past (Some v) = shown past v
 abbrev pub shown_in : List PastStep → ℕ → ℕ → Shown
 shown_in past session number = shown_by past (held_view past session number)
 
+abbrev pub placed_by : List PastStep → Option HeldView → List PlacedRow
+placed_by past None = []
+placed_by past (Some v) = placed (side past v)
+
 -- its rows with the places by which they are sorted
 abbrev pub placed_in : List PastStep → ℕ → ℕ → List PlacedRow
-placed_in past session number = placed (shown_in past session number).rows
+placed_in past session number = placed_by past (held_view past session number)
+
+-- one header is not the other
+abbrev pub header_differs : Shown → Shown → Bool
+header_differs before after = not (same_header before.header after.header)
 
 abbrev pub edit_by : Option HeldView → ℕ
 edit_by None = 0
@@ -80,7 +91,7 @@ abbrev pub head_dirty : List PastStep → ℕ → ℕ → Bool
 head_dirty [] session number = false
 head_dirty (d ∷ past) session number =
     if is_base session number d then false
-    else head_dirty past session number || head_touched (shown_in past session number) (shown_in (d ∷ past) session number)
+    else head_dirty past session number || header_differs (shown_in past session number) (shown_in (d ∷ past) session number)
 
 -- from what was shown at the base to what is shown now, by the dirty keys
 abbrev pub delta_in : List PastStep → ℕ → ℕ → Delta

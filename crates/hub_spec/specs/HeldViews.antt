@@ -1,29 +1,26 @@
 -- The views that sessions hold, and what they show.
-use Rattle.std.specs.Prelude.{ℕ, ◌==◌, List, [], ◌∷◌, ◌++◌, filter, map, length, find, Bool, true, false, not, ◌&&◌, Option, Some, None, is_none, if◌then◌else◌}
+use Rattle.std.specs.Prelude.{ℕ, ◌==◌, List, [], ◌∷◌, ◌++◌, filter, map, length, find, Bool, true, false, not, ◌&&◌, Option, Some, None, is_none, Result, Ok, Err, if◌then◌else◌}
 use Rattle.std.specs.List.{list_any}
-use Rattle.cell_core.specs.RawData.{RawData}
-use Rattle.cell_core.specs.declared.cell.Cell.{Cell}
+use Rattle.cell_core.specs.Schemas.{SchemaData}
 use Rattle.frame_types.specs.Asks.{Ask}
 use Rattle.frame_types.specs.Asks as ask
 use Rattle.frame_types.specs.declared.reply.Body.{Body}
 use Rattle.frame_types.specs.declared.reply.Body.TheVariants as body
-use Rattle.plain_view.specs.Flat.{flat_view}
+use Rattle.frame_types.specs.declared.reply.Refusal.{Refusal}
+use Rattle.plan_types.specs.declared.plan.Plan.{Plan}
 use Rattle.view_types.specs.declared.shown.Shown.{Shown}
+use Rattle.view_spec.specs.Openings.{Opening, first_opening}
+use Rattle.view_spec.specs.Views.{Side, view}
 use Rattle.hub_spec.specs.Past.{PastStep, times}
+use Rattle.hub_spec.specs.Plans.{plan_asked}
 use Rattle.hub_spec.specs.Ports.{version_after}
 use Rattle.hub_spec.specs.Rows.{schema_or_none, rows}
-
--- to what depth groups are open, and the groups that were opened or closed one by one
-pub record Opening : Type 0 where
-  pub depth : ℕ
-  pub singles : List (List Cell × Bool)
 
 -- a view that a session holds
 pub record HeldView : Type 0 where
   pub session : ℕ
   pub number : ℕ
-  -- the plan as it was asked for
-  pub plan : RawData
+  pub plan : Plan
   pub opening : Opening
   -- the most keys that may be touched since the view's base before all that it shows is sent anew
   pub bound : ℕ
@@ -49,19 +46,24 @@ is_view session number v = v.session == session && v.number == number
 abbrev pub lost_at : ℕ → List (ℕ × ℕ) → HeldView → HeldView
 lost_at at lost v = if list_any (λ (w : ℕ × ℕ). is_view w.0 w.1 v) lost then record v { lost = Some at } else v
 
-abbrev pub opened_view : ℕ → ℕ → RawData → ℕ → HeldView
+abbrev pub opened_view : ℕ → ℕ → Plan → ℕ → HeldView
 opened_view session number plan bound = record {
   session = session;
   number = number;
   plan = plan;
-  opening = record { depth = 0; singles = [] };
+  opening = first_opening plan;
   bound = bound;
   edit = 0;
   lost = None;
 }
 
+-- one more, where its plan could be read
+abbrev pub with_opened : ℕ → ℕ → ℕ → Result Plan Refusal → List HeldView → List HeldView
+with_opened session number bound (Ok plan) all = all ++ opened_view session number plan bound ∷ []
+with_opened session number bound (Err why) all = all
+
 abbrev pub with_view : List PastStep → ℕ → Body → Ask → List HeldView → List HeldView
-with_view past session (body.Opened edit seen view) (ask.open_view plan bound) all = all ++ opened_view session view plan bound ∷ []
+with_view past session (body.Opened edit seen view) (ask.open_view plan bound) all = with_opened session view bound (plan_asked (schema_or_none past) plan) all
 with_view past session (body.AppliedLosing lost port seq) request all = map (lost_at (version_after past (body.AppliedLosing lost port seq)) lost) all
 with_view past session (body.Closed view) request all = filter (λ v. not (is_view session view v)) all
 with_view past session (body.Left closed) request all = filter (λ v. not (v.session == session)) all
@@ -83,6 +85,10 @@ held_by past session = length (filter (λ v. v.session == session) (views past))
 abbrev pub is_live : List PastStep → ℕ × ℕ → Bool
 is_live past w = list_any (λ v. is_view w.0 w.1 v && is_none v.lost) (views past)
 
+-- the table's columns and rows, as a view sees them
+abbrev pub side : List PastStep → HeldView → Side
+side past v = record { columns = (schema_or_none past).columns; plan = v.plan; opening = v.opening; pairs = rows past }
+
 -- what a view shows, computed from the rows
 abbrev pub shown : List PastStep → HeldView → Shown
-shown past v = flat_view (schema_or_none past) (rows past)
+shown past v = view (side past v)

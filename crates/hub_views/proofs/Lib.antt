@@ -5,3 +5,6 @@ pub mod Losses
 pub mod Numbered
 pub mod Opening
 pub mod Refreshes
+pub mod Sides
+pub mod Standing
+pub mod Told

@@ -1,20 +1,14 @@
 -- Each held view stands under its own session and number.
-use Rattle.std.proofs.Common.{◌≡◌, ℕ, ◌<◌, ◌≤◌, eqb, Bool, true, false, ◌&&◌, cond, List, [], ◌∷◌, ◌++◌, map, filter, All, Some, inl, inr, refl, sym, ap, ◌∙◌, arith, if◌then◌else◌}
+use Rattle.std.proofs.Common.{◌≡◌, ℕ, ◌<◌, ◌≤◌, eqb, Bool, true, false, ◌&&◌, cond, List, [], ◌∷◌, ◌++◌, map, filter, find, get_or, All, Some, None, inl, inr, refl, sym, ap, ◌∙◌, arith, if◌then◌else◌}
 use Rattle.std.proofs.lemmas.Bool.{cases_eq, eq-eqb, ne_eqb}
 use Rattle.std.proofs.lemmas.List.Elements.{All-nil, All-cons, All-head, All-tail, All-push, All-filter, All-map, All-weaker}
 use Rattle.std.specs.List.{list_any}
 use Rattle.hub_spec.specs.HeldViews.{HeldView, is_view, lost_at}
+use Rattle.hub_spec.proofs.Numbering.{not_view}
 use Rattle.hub_views.specs.Keeping.{AreNumbered}
 
 pub own_is_view : (v : HeldView) → is_view v.session v.number v ≡ true
 own_is_view v = rw (eq-eqb v.session v.session refl, eq-eqb v.number v.number refl) refl
-
-not_view : (session number : ℕ) (v : HeldView) → (v.session ≡ session → v.number ≡ number → ⊥) → is_view session number v ≡ false
-not_view session number v apart =
-    elim (cases_eq v.session session) as (λ _. is_view session number v ≡ false) [
-      | inl same ↦ rw (eq-eqb v.session session same) (ne_eqb v.number number (apart same))
-      | inr other ↦ rw (ne_eqb v.session session other) refl
-    ]
 
 -- a view was opened before another
 abbrev pub IsBefore : HeldView → HeldView → Type 0
@@ -35,9 +29,16 @@ are_apart v w before =
       | inr other ↦ rw (ne_eqb w.number v.number other) refl
     ]
 
+-- each held view is the one of its session and number
+pub own_found : (opened : ℕ → ℕ) (vs : List HeldView) → AreNumbered opened vs → All (λ v. find (is_view v.session v.number) vs ≡ Some v) vs
+own_found opened [] h = All-nil (λ v. None ≡ Some v)
+own_found opened (v ∷ vs) h =
+    All-cons (λ u. find (is_view u.session u.number) (v ∷ vs) ≡ Some u) v vs (rw (own_is_view v) refl)
+    (λ k x lt. rw (earlier_is_other v (get_or vs k x) (h.1 k x lt)) (own_found opened vs h.2 k x lt))
+
 -- each number is one that the session has given
 pub numbers_given : (opened : ℕ → ℕ) (vs : List HeldView) → AreNumbered opened vs → All (λ v. v.number < opened v.session) vs
-numbers_given opened_count [] h = All-nil (λ v. v.number < opened v.session)
+numbers_given opened [] h = All-nil (λ v. v.number < opened v.session)
 numbers_given opened (v ∷ vs) h = All-cons (λ w. w.number < opened w.session) v vs h.0 (numbers_given opened vs h.2)
 
 -- ---- what keeps lists numbered
@@ -59,7 +60,7 @@ numbered_filter opened keeps (v ∷ vs) h = by (keeps v) (numbered_filter opened
 -- one came with a greater number
 pub numbered_push : (opened : ℕ → ℕ) (vs : List HeldView) (w : HeldView) → AreNumbered opened vs → w.number < opened w.session
     → All (λ v. IsBefore v w) vs → AreNumbered opened (vs ++ w ∷ [])
-numbered_push opened_count [] w h lt before = (lt, All-nil (IsBefore w), tt)
+numbered_push opened [] w h lt before = (lt, All-nil (IsBefore w), tt)
 numbered_push opened (v ∷ vs) w h lt before = (
   h.0,
   All-push (IsBefore v) vs w h.1 (All-head (λ u. IsBefore u w) v vs before),

@@ -8,31 +8,41 @@ use Rattle.view_types.specs.Keys.{key_order, same_key}
 use Rattle.view_types.specs.declared.key.ViewKey.{ViewKey}
 use Rattle.view_types.specs.declared.shown.Shown.{Shown}
 use Rattle.view_types.specs.declared.shown.ShownRow.{ShownRow}
+use Rattle.row_batch.specs.declared.change.RowChange.{RowChange}
+use Rattle.table_core.specs.Tables.{TableData}
+use Rattle.view_spec.specs.LookUps.{has_placed}
+use Rattle.view_spec.specs.Touching.{head_touched, key_of, touched_keys}
+use Rattle.view_spec.specs.Views.{Side, placed, view}
+use Rattle.view_spec.specs.declared.placed.PlacedRow.{PlacedRow}
+use Rattle.view_spec.proofs.TouchLaws.{rows_of}
+use Rattle.view_kept.specs.Steps.{side_at, side_of, touched_between}
+use Rattle.flat_live.specs.Flat.{StandsFlat, shows_flat}
 use Rattle.delta_core.specs.Deltas.{marked}
 use Rattle.delta_core.specs.DirtySets.{DirtyData, dirty_of, joined}
 use Rattle.delta_core.specs.KeySets.{with_keys}
-use Rattle.delta_core.specs.Rows.{at_key, has_row}
+use Rattle.delta_core.specs.Rows.{at_key, has_row, row_at}
 use Rattle.delta_core.specs.declared.delta.Mark.{Mark}
 use Rattle.delta_core.proofs.KeySetLemmas.{beside-with_keys, no_keys_ascend, with_keys-ascends}
-use Rattle.plain_view.specs.Touching.{head_touched, key_of, place_of, placed, touched_keys}
 use Rattle.hub_spec.specs.Past.{PastStep}
-use Rattle.hub_spec.specs.Bases.{base_or_none, dirty, head_dirty, is_base, placed_in, shown_in}
-use Rattle.hub_spec.specs.HeldViews.{HeldView}
-use Rattle.hub_spec.proofs.Folding.{agree_since}
+use Rattle.hub_spec.specs.Bases.{base_or_none, dirty, head_dirty, header_differs, is_base, placed_by, placed_in, shown_by, shown_in}
+use Rattle.hub_spec.specs.HeldViews.{HeldView, held_view, side}
+use Rattle.hub_spec.proofs.Folding.{agree_since, placed_at_base, rows_at_base, rows_placed}
 use Rattle.hub_views.specs.Keeping.{live_at}
-use Rattle.hub_views.specs.Refreshing.{AreRefreshed, IsBrought, IsRefreshed, is_loss, losses}
+use Rattle.hub_views.specs.Live.{LiveData, live_data}
+use Rattle.hub_views.specs.Tables.{HoldsTable}
+use Rattle.hub_views.specs.Refreshing.{AreRefreshed, AreSteps, IsBrought, IsRefreshed, is_loss, losses}
 use Rattle.hub_views.specs.declared.live.LiveView.{LiveView}
 use Rattle.hub_views.specs.declared.view.View.{View}
-use Rattle.hub_views.proofs.KeptViews.{live_next, next_is}
+use Rattle.hub_views.proofs.KeptViews.{live_next, next_is, placed_at, shown_at}
+use Rattle.hub_views.proofs.Sides.{table_keys, table_placed, table_view}
 
 -- ---- what is joined to the dirty keys
 
-has_placed : (k : ViewKey) (rows : List ShownRow) → is_some (at_key key_of k (placed rows)) ≡ has_row k rows
-has_placed k [] = refl
-has_placed k (r ∷ rows) = by (same_key r.key k) (has_placed k rows)
+has_row_of : (k : ViewKey) (xs : List PlacedRow) → has_row k (rows_of xs) ≡ has_placed k xs
+has_row_of k [] = refl
+has_row_of k (x ∷ xs) = by (same_key (key_of x) k) (has_row_of k xs)
   where
-    by : (b : Bool) → is_some (at_key key_of k (placed rows)) ≡ has_row k rows
-        → is_some (cond b (Some (record { place = place_of r.key; row = r })) (at_key key_of k (placed rows))) ≡ is_some (cond b (Some r) (find (λ q. same_key q.key k) rows))
+    by : (b : Bool) → has_row k (rows_of xs) ≡ has_placed k xs → is_some (cond b (Some x.row) (row_at k (rows_of xs))) ≡ is_some (cond b (Some x) (at_key key_of k xs))
     by true later = refl
     by false later = later
 
@@ -55,32 +65,60 @@ joined_since past s number touched =
     let at_base : List ShownRow = (base_or_none past s number).shown.rows in
     let before : List ShownRow = (shown_in past s number).rows in
     sym (beside-with_keys (λ k. has_row k at_base) (λ k. has_row k before) (dirty past s number) touched (dirty_ascends past s number)
-    (λ k further off. sym (has_placed k at_base) ∙ ap is_some (agree_since past s number k off) ∙ has_placed k before))
+    (λ k further off.
+    ap (has_row k) (sym (rows_at_base past s number)) ∙ has_row_of k (placed_at_base past s number)
+    ∙ ap is_some (agree_since past s number k off)
+    ∙ sym (has_row_of k (placed_in past s number)) ∙ ap (has_row k) (rows_placed past (held_view past s number))))
 
 -- ---- one view
 
-same_live : (live other : LiveView) → live.bound ≡ other.bound → live.edit ≡ other.edit → live.shown ≡ other.shown → live.base ≡ other.base → live.dirty ≡ other.dirty
+same_live : (live other : LiveData) → live.bound ≡ other.bound → live.edit ≡ other.edit → live.shown ≡ other.shown → live.base ≡ other.base → live.dirty ≡ other.dirty
     → live ≡ other
 same_live live other a b c d e = by live.bound other.bound live.edit other.edit live.shown other.shown live.base other.base live.dirty other.dirty a b c d e
   where
     by : (b c e f : ℕ) (s t : Shown) (m n : Mark) (d g : DirtyData) → b ≡ c → e ≡ f → s ≡ t → m ≡ n → d ≡ g
-        → let x : LiveView = record { bound = b; edit = e; shown = s; base = m; dirty = d } in x ≡ record { bound = c; edit = f; shown = t; base = n; dirty = g }
+        → let x : LiveData = record { bound = b; edit = e; shown = s; base = m; dirty = d } in x ≡ record { bound = c; edit = f; shown = t; base = n; dirty = g }
     by b c e f s t m n d g p q r u v = cc
 
--- a live view that is brought to what is shown after a step is kept as it is then
-pub brought_is : (past : List PastStep) (d : PastStep) (v : HeldView) (now : Shown) (live : LiveView) → is_base v.session v.number d ≡ false
-    → shown_in (d ∷ past) v.session v.number ≡ now → IsBrought now (live_at past v.session v.number v.bound v.edit) live
-    → live ≡ live_at (d ∷ past) v.session v.number v.bound v.edit
-brought_is past d v now live other shows brought =
+-- a live view that is brought to the table after a step is kept as it is then
+pub brought_is : (past : List PastStep) (d : PastStep) (v : HeldView) (was now : TableData) (before after : ℕ) (changes : List RowChange) (old live : LiveView)
+    → HoldsTable was before past → HoldsTable now after (d ∷ past) → AreSteps was changes now
+    → held_view past v.session v.number ≡ Some v → (w : HeldView) → held_view (d ∷ past) v.session v.number ≡ Some w → w.plan ≡ v.plan → w.opening ≡ v.opening
+    → is_base v.session v.number d ≡ false → StandsFlat old.rows (side_of v.plan v.opening was)
+    → live_data old ≡ live_at past v.session v.number v.bound v.edit → IsBrought changes now old live
+    → live_data live ≡ live_at (d ∷ past) v.session v.number v.bound v.edit
+brought_is past d v was now before after changes old live table table_now steps held w held_now plans openings other stands is brought =
     let s = v.session in
     let n = v.number in
     let at_base : List ShownRow = (base_or_none past s n).shown.rows in
-    let was : Shown = shown_in past s n in
-    let dirt : live.dirty ≡ (live_next past s n v.bound v.edit now).dirty =
-    brought.dirty (marked at_base (dirty past s n)) (head_dirty past s n) refl
-    ∙ ap (λ keys. dirty_of v.bound keys (head_dirty past s n || head_touched was now)) (joined_since past s n (touched_keys (placed was.rows) (placed now.rows))) in
-    same_live live (live_next past s n v.bound v.edit now) brought.bound brought.edit brought.shown brought.base dirt
-    ∙ ap (live_next past s n v.bound v.edit) (sym shows) ∙ sym (next_is past d s n v.bound v.edit other)
+    let a : Side = side_of v.plan v.opening was in
+    let b : Side = side_of v.plan v.opening now in
+    let shows : shown_in past s n ≡ view a = shown_at past v held ∙ table_view was before past table v in
+    let places : placed_in past s n ≡ placed a = placed_at past v held ∙ table_placed was before past table v in
+    let same_plan : view (side_of w.plan w.opening now) ≡ view b = ap (λ p. view (side_of p w.opening now)) plans ∙ ap (λ o. view (side_of v.plan o now)) openings in
+    let same_places : placed (side_of w.plan w.opening now) ≡ placed b = ap (λ p. placed (side_of p w.opening now)) plans ∙ ap (λ o. placed (side_of v.plan o now)) openings in
+    let shows_now : shown_in (d ∷ past) s n ≡ view b = ap (shown_by (d ∷ past)) held_now ∙ table_view now after (d ∷ past) table_now w ∙ same_plan in
+    let places_now : placed_in (d ∷ past) s n ≡ placed b = ap (placed_by (d ∷ past)) held_now ∙ table_placed now after (d ∷ past) table_now w ∙ same_places in
+    let step = steps v.plan v.opening in
+    let seen : (live_data live).shown ≡ view b = shows_flat live.rows b (brought.stands a stands step) (table_keys now after (d ∷ past) table_now) in
+    let bounds : live.bound ≡ v.bound = brought.bound ∙ ap (λ (x : LiveData). x.bound) is in
+    let touched : List ViewKey = touched_keys (placed_in past s n) (placed_in (d ∷ past) s n) in
+    let of_dirt : live.dirty ≡ dirty_of old.dirty.bound (joined (marked at_base (dirty past s n)) (touched_between a b)) (head_dirty past s n || head_touched a b) =
+    brought.dirty a (marked at_base (dirty past s n)) (head_dirty past s n) stands step (ap (λ (x : LiveData). x.dirty) is ∙ ap (λ k. dirty_of k (marked at_base (dirty past s n)) (head_dirty past s n)) (sym (ap (λ (x : LiveData). x.dirty.bound) is))) in
+    let marks : touched_between a b ≡ marked (shown_in past s n).rows touched =
+    ap (λ (x : Shown). marked x.rows (touched_keys (placed a) (placed b))) (sym shows)
+    ∙ ap (λ ps. marked (shown_in past s n).rows (touched_keys ps (placed b))) (sym places) ∙ ap (λ ps. marked (shown_in past s n).rows (touched_keys (placed_in past s n) ps)) (sym places_now) in
+    let heads : head_touched a b ≡ header_differs (shown_in past s n) (shown_in (d ∷ past) s n) =
+    ap (λ x. header_differs x (view b)) (sym shows) ∙ ap (header_differs (shown_in past s n)) (sym shows_now) in
+    let dirt : live.dirty ≡ (live_next past s n v.bound v.edit (shown_in (d ∷ past) s n) (placed_in (d ∷ past) s n)).dirty =
+    of_dirt
+    ∙ ap (λ k. dirty_of k (joined (marked at_base (dirty past s n)) (touched_between a b)) (head_dirty past s n || head_touched a b)) (ap (λ (x : LiveData). x.dirty.bound) is)
+    ∙ ap (λ ks. dirty_of v.bound (joined (marked at_base (dirty past s n)) ks) (head_dirty past s n || head_touched a b)) marks
+    ∙ ap (λ ks. dirty_of v.bound ks (head_dirty past s n || head_touched a b)) (joined_since past s n touched)
+    ∙ ap (λ h. dirty_of v.bound (marked at_base (with_keys (dirty past s n) touched)) (head_dirty past s n || h)) heads in
+    same_live (live_data live) (live_next past s n v.bound v.edit (shown_in (d ∷ past) s n) (placed_in (d ∷ past) s n)) bounds (brought.edit ∙ ap (λ (x : LiveData). x.edit) is)
+    (seen ∙ sym shows_now) (brought.base ∙ ap (λ (x : LiveData). x.base) is) dirt
+    ∙ sym (next_is past d s n v.bound v.edit other)
 
 -- ---- the loop over the views
 
@@ -95,19 +133,19 @@ losses_cons v w vs ws = by (is_loss v.state w.state)
     by true = refl
     by false = refl
 
-losses_more : (now : Shown) (version : ℕ) (vs ws : List View) (v w : View) → AreRefreshed now version vs ws
+losses_more : (changes : List RowChange) (now : TableData) (version : ℕ) (vs ws : List View) (v w : View) → AreRefreshed changes now version vs ws
     → losses (vs ++ v ∷ []) (ws ++ w ∷ []) ≡ losses vs ws ++ loss v w
-losses_more now version [] [] v w h = losses_cons v w [] [] ∙ append-nil (loss v w)
-losses_more now version [] (y ∷ ws) v w h = absurd h
-losses_more now version (x ∷ vs) [] v w h = absurd h
-losses_more now version (x ∷ vs) (y ∷ ws) v w h =
-    losses_cons x y (vs ++ v ∷ []) (ws ++ w ∷ []) ∙ ap (λ l. loss x y ++ l) (losses_more now version vs ws v w h.1)
+losses_more changes now version [] [] v w h = losses_cons v w [] [] ∙ append-nil (loss v w)
+losses_more changes now version [] (y ∷ ws) v w h = absurd h
+losses_more changes now version (x ∷ vs) [] v w h = absurd h
+losses_more changes now version (x ∷ vs) (y ∷ ws) v w h =
+    losses_cons x y (vs ++ v ∷ []) (ws ++ w ∷ []) ∙ ap (λ l. loss x y ++ l) (losses_more changes now version vs ws v w h.1)
     ∙ sym (append_assoc (loss x y) (losses vs ws) (loss v w))
     ∙ sym (ap (λ l. l ++ loss v w) (losses_cons x y vs ws))
 
 -- what holds once so many views were brought up to date, of those before and after, and of the names that were noted
-pub record IsSoFar (now : Shown) (version : ℕ) (old items : List View) (before names : List (ℕ × ℕ)) (i : ℕ) : Type 0 where
-  pub refreshed : AreRefreshed now version (take i old) (take i items)
+pub record IsSoFar (changes : List RowChange) (now : TableData) (version : ℕ) (old items : List View) (before names : List (ℕ × ℕ)) (i : ℕ) : Type 0 where
+  pub refreshed : AreRefreshed changes now version (take i old) (take i items)
   pub lost : names ≡ before ++ losses (take i old) (take i items)
   pub rest : drop i items ≡ drop i old
   pub size : length items ≡ length old
@@ -119,27 +157,27 @@ still_there old items i d rest =
     let at_items : get_or (drop i items) 0 d ≡ get_or items i d = get_or-drop i items 0 d ∙ ap (λ k. get_or items k d) zero_more in
     sym at_old ∙ ap (λ xs. get_or xs 0 d) (sym rest) ∙ at_items
 
-pub one_more : (now : Shown) (version : ℕ) (old items : List View) (noted lost more : List (ℕ × ℕ)) (i : ℕ) (d w : View) → i < length items
-    → IsRefreshed now version (get_or items i d) w → more ≡ lost ++ loss (get_or items i d) w → IsSoFar now version old items noted lost i
-    → IsSoFar now version old (set items i w) noted more (i + 1)
-one_more now version old items noted lost more i d w lt here is h =
+pub one_more : (changes : List RowChange) (now : TableData) (version : ℕ) (old items : List View) (noted lost more : List (ℕ × ℕ)) (i : ℕ) (d w : View) → i < length items
+    → IsRefreshed changes now version (get_or items i d) w → more ≡ lost ++ loss (get_or items i d) w → IsSoFar changes now version old items noted lost i
+    → IsSoFar changes now version old (set items i w) noted more (i + 1)
+one_more changes now version old items noted lost more i d w lt here is h =
     let v : View = get_or items i d in
     let within : i < length old = omega (arith, lt, h.size) in
     let before : take (i + 1) old ≡ take i old ++ v ∷ [] = take_more old i d within ∙ ap (λ x. take i old ++ x ∷ []) (still_there old items i d h.rest) in
     let after : take (i + 1) (set items i w) ≡ take i items ++ w ∷ [] = take_more_set items i w lt in
     let less : i < i + 1 = omega arith in
     record {
-      refreshed = rw (before, after) (AllZip-push (IsRefreshed now version) (take i old) (take i items) v w h.refreshed here);
+      refreshed = rw (before, after) (AllZip-push (IsRefreshed changes now version) (take i old) (take i items) v w h.refreshed here);
       lost = rw (before, after) (is ∙ ap (λ l. l ++ loss v w) h.lost ∙ append_assoc noted (losses (take i old) (take i items)) (loss v w)
-          ∙ sym (ap (λ l. noted ++ l) (losses_more now version (take i old) (take i items) v w h.refreshed)));
+          ∙ sym (ap (λ l. noted ++ l) (losses_more changes now version (take i old) (take i items) v w h.refreshed)));
       rest = drop-set-lt (i + 1) items i w less ∙ sym (drop-drop 1 i items) ∙ ap (drop 1) h.rest ∙ drop-drop 1 i old;
       size = length-set items i w ∙ h.size;
     }
 
 -- a view that is lost is noted by what it is after as by what it was
-pub noted_loss : (lost : List (ℕ × ℕ)) (now : Shown) (version : ℕ) (v w : View) → is_loss v.state w.state ≡ true → IsRefreshed now version v w
+pub noted_loss : (lost : List (ℕ × ℕ)) (changes : List RowChange) (now : TableData) (version : ℕ) (v w : View) → is_loss v.state w.state ≡ true → IsRefreshed changes now version v w
     → lost ++ (w.session, w.number) ∷ [] ≡ lost ++ loss v w
-noted_loss lost now version v w loses h =
+noted_loss lost changes now version v w loses h =
     ap (λ s. lost ++ (s, w.number) ∷ []) h.session ∙ ap (λ n. lost ++ (v.session, n) ∷ []) h.number
     ∙ sym (ap (λ b. lost ++ cond b ((v.session, v.number) ∷ []) []) loses)
 

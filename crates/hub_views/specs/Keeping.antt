@@ -1,5 +1,6 @@
 -- What is kept of the views that are held after a history.
-use Rattle.std.specs.Prelude.{◌≡◌, ℕ, ◌<◌, ◌==◌, Bool, ◌&&◌, false, List, [], ◌∷◌, All, find, length, map, slice_index, Option, Some, None, is_none, option_map, Result, Ok, Err}
+use Rattle.std.specs.Prelude.{◌≡◌, ⊤, ℕ, ◌<◌, ◌==◌, Bool, ◌&&◌, false, List, [], ◌∷◌, All, find, length, map, slice_index, Option, Some, None, is_none, option_map, Result, Ok, Err}
+use Rattle.std.specs.List.{AllZip}
 use Rattle.cell_core.specs.RawData.{RawData}
 use Rattle.delta_core.specs.Deltas.{marked}
 use Rattle.delta_core.specs.DirtySets.{dirty_of}
@@ -16,6 +17,13 @@ use Rattle.hub_spec.specs.HeldViews.{HeldView}
 use Rattle.hub_spec.specs.HeldViews as held
 use Rattle.hub_spec.specs.Histories.{choice_of, plenty}
 use Rattle.hub_spec.specs.Ports as ports
+use Rattle.hub_spec.specs.Plans.{plan_asked}
+use Rattle.hub_spec.specs.Rows.{schema_or_none}
+use Rattle.plan_types.specs.declared.plan.Plan.{Plan}
+use Rattle.table_core.specs.Tables.{TableData}
+use Rattle.view_kept.specs.Steps.{side_of}
+use Rattle.flat_live.specs.Flat.{StandsFlat}
+use Rattle.hub_views.specs.Live.{LiveData, StateData, ViewData, live_now, lost_now, view_data}
 use Rattle.hub_views.specs.declared.live.LiveView.{LiveView}
 use Rattle.hub_views.specs.declared.view.View.{View}
 use Rattle.hub_views.specs.declared.view.ViewState.{ViewState}
@@ -24,7 +32,7 @@ use Rattle.hub_views.specs.declared.views.Views.{Views}
 
 -- what the view shows, the mark of its base, and the keys touched since, each beside whether it was shown at
 -- the base
-abbrev pub live_at : List PastStep → ℕ → ℕ → ℕ → ℕ → LiveView
+abbrev pub live_at : List PastStep → ℕ → ℕ → ℕ → ℕ → LiveData
 live_at past session number bound edit =
     let was = base_or_none past session number in
     record {
@@ -35,11 +43,11 @@ live_at past session number bound edit =
       dirty = dirty_of bound (marked was.shown.rows (dirty past session number)) (head_dirty past session number);
     }
 
-abbrev pub state_of : List PastStep → HeldView → Option ℕ → ViewState
-state_of past v None = Live (live_at past v.session v.number v.bound v.edit)
-state_of past v (Some version) = Lost version
+abbrev pub state_of : List PastStep → HeldView → Option ℕ → StateData
+state_of past v None = live_now (live_at past v.session v.number v.bound v.edit)
+state_of past v (Some version) = lost_now version
 
-abbrev pub kept_view : List PastStep → HeldView → View
+abbrev pub kept_view : List PastStep → HeldView → ViewData
 kept_view past v = record { session = v.session; number = v.number; state = state_of past v v.lost }
 
 -- ---- the view that is asked
@@ -56,30 +64,50 @@ asked (Some (Lost version)) = Err (view_lost version)
 abbrev pub asked_at : ℕ → ℕ → List View → Result LiveView Refusal
 asked_at session number kept = asked (option_map (λ v. v.state) (find (is_kept session number) kept))
 
+-- the same of what is shown
+abbrev pub is_named : ℕ → ℕ → ViewData → Bool
+is_named session number v = v.session == session && v.number == number
+
+abbrev pub asked_state : Option StateData → Result LiveData Refusal
+asked_state None = Err no_view
+asked_state (Some (live_now live)) = Ok live
+asked_state (Some (lost_now version)) = Err (view_lost version)
+
+abbrev pub asked_data : ℕ → ℕ → List ViewData → Result LiveData Refusal
+asked_data session number kept = asked_state (option_map (λ v. v.state) (find (is_named session number) kept))
+
 -- ---- all views
 
 -- each view of a session has a lesser number than those that the session opened after it
 abbrev pub AreNumbered : (ℕ → ℕ) → List HeldView → Type 0
-AreNumbered opened_count [] = Unit {0}
+AreNumbered opened [] = Unit {0}
 AreNumbered opened (v ∷ vs) =
     (v.number < opened v.session) × All (λ w. v.session ≡ w.session → v.number < w.number) vs × AreNumbered opened vs
 
-pub record Keeps (kept : List View) (counts : List ℕ) (past : List PastStep) : Type 0 where
+pub record Keeps (kept : List ViewData) (counts : List ℕ) (past : List PastStep) : Type 0 where
   pub made : is_none (ports.schema past) ≡ false
   pub views : kept ≡ map (kept_view past) (held.views past)
   pub size : length counts ≡ sessions
   pub opened : (session : ℕ) → session < sessions → slice_index counts session ≡ held.opened_count past session
   pub numbered : AreNumbered (held.opened_count past) (held.views past)
 
--- a table was made, and these are the views that sessions hold
-unfoldable pub HoldsViews : Views → List PastStep → Type 0
-HoldsViews v past = Keeps v.items.items v.opened past
+-- the rows of a view that can be asked stand for what its plan makes of the table's
+abbrev pub StandsIn : TableData → HeldView → ViewState → Type 0
+StandsIn t h (Live live) = StandsFlat live.rows (side_of h.plan h.opening t)
+StandsIn t h (Lost version) = ⊤
 
--- the answer opens a view of all that the table's rows show
-pub record IsOpened (past : List PastStep) (session bound : ℕ) (answer : Body) (Holds : List PastStep → Type 0) : Type 0 where
-  pub right : (plan : RawData) → answer ≡ grant past session (ask.open_view plan bound)
+abbrev pub Stands : TableData → View → HeldView → Type 0
+Stands t v h = StandsIn t h v.state
+
+-- a table was made, these are the views that sessions hold, and each keeps its rows of that table
+unfoldable pub HoldsViews : Views → TableData → List PastStep → Type 0
+HoldsViews v t past = Keeps (map view_data v.items.items) v.opened past × AllZip (Stands t) v.items.items (held.views past)
+
+-- the answer opens a view by a plan, and shows all of it
+pub record IsOpened (past : List PastStep) (session : ℕ) (plan : Plan) (bound : ℕ) (answer : Body) (Holds : List PastStep → Type 0) : Type 0 where
+  pub right : (asked : RawData) → plan_asked (schema_or_none past) asked ≡ Ok plan → answer ≡ grant past session (ask.open_view asked bound)
   pub unnamed : choice_of answer ≡ plenty
-  pub holds : (plan : RawData) (n version : ℕ) → Holds (with_step session (ask.open_view plan bound) n version answer past)
+  pub holds : (asked : RawData) → plan_asked (schema_or_none past) asked ≡ Ok plan → (n version : ℕ) → Holds (with_step session (ask.open_view asked bound) n version answer past)
 
 -- a table was made, and no view was opened
 pub record HasNoViews (past : List PastStep) : Type 0 where

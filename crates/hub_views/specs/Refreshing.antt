@@ -2,13 +2,18 @@
 use Rattle.std.specs.Prelude.{◌≡◌, ℕ, ◌+◌, ◌≤◌, List, [], ◌∷◌, Bool, true, false, ◌||◌, if◌then◌else◌}
 use Rattle.std.specs.List.{AllZip, list_all}
 use Rattle.std.specs.Vec.{vec_len, vec_capacity}
-use Rattle.delta_core.specs.Deltas.{marked}
 use Rattle.delta_core.specs.DirtySets.{dirty_of, joined}
 use Rattle.frame_types.specs.declared.reply.Body.{Body}
 use Rattle.frame_types.specs.declared.reply.Body.TheVariants.{Applied, AppliedLosing}
-use Rattle.plain_view.specs.Touching.{head_touched, placed, touched_keys}
+use Rattle.plan_types.specs.declared.plan.Plan.{Plan}
+use Rattle.row_batch.specs.declared.change.RowChange.{RowChange}
+use Rattle.table_core.specs.Tables.{TableData}
+use Rattle.view_spec.specs.Openings.{Opening}
+use Rattle.view_spec.specs.Touching.{head_touched}
+use Rattle.view_spec.specs.Views.{Side}
+use Rattle.view_kept.specs.Steps.{IsStep, side_at, side_of, touched_between}
+use Rattle.flat_live.specs.Flat.{StandsFlat}
 use Rattle.view_types.specs.declared.key.ViewKey.{ViewKey}
-use Rattle.view_types.specs.declared.shown.Shown.{Shown}
 use Rattle.hub_spec.specs.Past.{PastStep}
 use Rattle.hub_spec.specs.HeldViews.{is_live}
 use Rattle.hub_spec.specs.Histories.{is_ascending}
@@ -19,27 +24,31 @@ use Rattle.hub_views.specs.declared.view.ViewState.TheVariants.{Live, Lost}
 use Rattle.hub_views.specs.declared.views.LossRoom.{LossRoom}
 use Rattle.hub_views.specs.declared.views.Views.{Views}
 
+-- the changes lead from the rows of one table to those of the other, for whatever view of them
+abbrev pub AreSteps : TableData → List RowChange → TableData → Type 0
+AreSteps was changes now = (plan : Plan) (opening : Opening) → IsStep (side_of plan opening was) changes now
+
 -- ---- one view
 
--- the view shows this now, and what that touched is joined to what was touched since its base
-pub record IsBrought (now : Shown) (was after : LiveView) : Type 0 where
+-- the view keeps its rows of the table now, and what that touched is joined to what was touched since its base
+pub record IsBrought (changes : List RowChange) (now : TableData) (was after : LiveView) : Type 0 where
   pub bound : after.bound ≡ was.bound
   pub edit : after.edit ≡ was.edit
-  pub shown : after.shown ≡ now
   pub base : after.base ≡ was.base
-  pub dirty : (keys : List (ViewKey × Bool)) (header : Bool) → was.dirty ≡ dirty_of was.dirty.bound keys header
-      → after.dirty ≡ dirty_of was.dirty.bound (joined keys (marked was.shown.rows (touched_keys (placed was.shown.rows) (placed now.rows)))) (header || head_touched was.shown now)
+  pub stands : (s : Side) → StandsFlat was.rows s → IsStep s changes now → StandsFlat after.rows (side_at s now)
+  pub dirty : (s : Side) (keys : List (ViewKey × Bool)) (header : Bool) → StandsFlat was.rows s → IsStep s changes now → was.dirty ≡ dirty_of was.dirty.bound keys header
+      → after.dirty ≡ dirty_of was.dirty.bound (joined keys (touched_between s (side_at s now))) (header || head_touched s (side_at s now))
 
--- a view that could be asked shows this now or is lost at that version; one that was lost stays so
-abbrev pub Becomes : Shown → ℕ → ViewState → ViewState → Type 0
-Becomes now version (Lost at) after = after ≡ Lost at
-Becomes now version (Live was) (Live after) = IsBrought now was after
-Becomes now version (Live was) (Lost at) = at ≡ version
+-- a view that could be asked is brought there or is lost at that version; one that was lost stays so
+abbrev pub Becomes : List RowChange → TableData → ℕ → ViewState → ViewState → Type 0
+Becomes changes now version (Lost at) after = after ≡ Lost at
+Becomes changes now version (Live was) (Live after) = IsBrought changes now was after
+Becomes changes now version (Live was) (Lost at) = at ≡ version
 
-pub record IsRefreshed (now : Shown) (version : ℕ) (was after : View) : Type 0 where
+pub record IsRefreshed (changes : List RowChange) (now : TableData) (version : ℕ) (was after : View) : Type 0 where
   pub session : after.session ≡ was.session
   pub number : after.number ≡ was.number
-  pub state : Becomes now version was.state after.state
+  pub state : Becomes changes now version was.state after.state
 
 -- ---- all views
 
@@ -49,8 +58,8 @@ is_loss (Live was) (Lost at) = true
 is_loss (Live was) (Live after) = false
 is_loss (Lost at) after = false
 
-abbrev pub AreRefreshed : Shown → ℕ → List View → List View → Type 0
-AreRefreshed now version vs ws = AllZip (IsRefreshed now version) vs ws
+abbrev pub AreRefreshed : List RowChange → TableData → ℕ → List View → List View → Type 0
+AreRefreshed changes now version vs ws = AllZip (IsRefreshed changes now version) vs ws
 
 -- the sessions and numbers of the views that were lost
 abbrev pub losses : List View → List View → List (ℕ × ℕ)

@@ -1,8 +1,9 @@
 //! The views that sessions hold over one table: what each shows, and what was touched since its session was
 //! last told.
 //!
-//! It stands on `plain_view` and `delta_core`, and on `hub_spec`, whose definitions say what each request is
-//! answered after a history of requests. Its callers may rely on this: for every history that `Views` holds
+//! It stands on `view_kept` for what a kept view promises, on `flat_live`, which keeps the rows of a view by the
+//! changes of the table's, on `delta_core`, and on `hub_spec`, whose definitions say what each request is answered
+//! after a history of requests. Its callers may rely on this: for every history that `Views` holds
 //! (`HoldsViews` of `specs/Keeping.antt`) each call answers what that history is answered, and holds the
 //! history with that step. What they keep of a view is their own. A view of which an update finds no memory
 //! is lost, and no other.
@@ -10,7 +11,9 @@
 
 mod list;
 mod live;
+mod plans;
 mod refused;
+mod showing;
 mod view;
 mod views;
 

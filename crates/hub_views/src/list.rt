@@ -1,7 +1,6 @@
 ghost use Rattle.std.specs.Prelude.{◌≡◌, ◌==◌, ◌+◌, ◌≤◌, ◌++◌, filter, find, length, map, not};
 ghost use Rattle.std.specs.Option.{option_copied};
 ghost use Rattle.std.specs.Vec.{vec_len, vec_capacity};
-ghost use Rattle.plain_view.specs.Flat.{flat_view};
 ghost use Rattle.hub_views.specs.Keeping.{is_kept};
 ghost use Rattle.hub_views.specs.Live.{rebased_at};
 ghost use Rattle.hub_views.specs.Refreshing.{AreRefreshed, losses};
@@ -9,6 +8,7 @@ ghost use Rattle.hub_views.specs.Refreshing.{AreRefreshed, losses};
 use crate::view::View;
 use cell_core::Steps;
 use delta_core::Mark;
+use row_batch::RowChange;
 use std::alloc::Global;
 use std::sync::ledger::Ledger;
 use table_core::Table;
@@ -52,22 +52,23 @@ pub fn drop_views(views: &mut Vec<View>, session: u32)
     views.retain(|view| view.session != session);
 }
 
-/// Brings each view to what the table shows now, and adds the names of those that are lost by that to a list
-/// that has room for them.
+/// Brings each view to the table's rows, to which the changes led, and adds the names of those that are lost by that
+/// to a list that has room for them.
 pub fn refresh_each<L: Ledger>(
     alloc: Global,
     table: &Table,
+    changes: &[RowChange],
     version: u64,
     views: &mut Vec<View>,
     lost: &mut Vec<(u32, u64)>,
     steps: &mut Steps<L>,
 )
     requires { vec_len lost.old + vec_len views.old ≤ vec_capacity lost.old }
-    ensures refreshed { AreRefreshed (flat_view table.now.schema table.now.store.pairs) version views.old.items views.new.items }
+    ensures refreshed { AreRefreshed changes.now table.now version views.old.items views.new.items }
     ensures lost { lost.new.items ≡ lost.old.items ++ losses views.old.items views.new.items }
 {
     for view in views.iter_mut() {
-        if view.refresh(alloc, table, version, steps) {
+        if view.refresh(alloc, table, changes, version, steps) {
             lost.push_reserved((view.session, view.number));
         }
     }

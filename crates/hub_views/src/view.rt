@@ -1,11 +1,11 @@
 ghost use Rattle.std.specs.Prelude.{◌≡◌};
-ghost use Rattle.plain_view.specs.Flat.{flat_view};
 ghost use Rattle.hub_views.specs.Live.{rebased, rebased_at};
 ghost use Rattle.hub_views.specs.Refreshing.{IsRefreshed, is_loss};
 
 use crate::live::LiveView;
 use cell_core::Steps;
 use delta_core::Mark;
+use row_batch::RowChange;
 use std::alloc::Global;
 use std::sync::ledger::Ledger;
 use table_core::Table;
@@ -37,22 +37,23 @@ impl View {
         }
     }
 
-    /// Brings the view to what the table shows now. Where that finds no memory the view is lost at this version,
-    /// and the answer is true; a view that was lost before stays so.
+    /// Brings the view to the table's rows, to which the changes led. Where that finds no memory the view is lost at
+    /// this version, and the answer is true; a view that was lost before stays so.
     pub fn refresh<L: Ledger>(
         &mut self,
         alloc: Global,
         table: &Table,
+        changes: &[RowChange],
         version: u64,
         steps: &mut Steps<L>,
     ) -> bool
-        ensures refreshed { IsRefreshed (flat_view table.now.schema table.now.store.pairs) version self.old self.new }
+        ensures refreshed { IsRefreshed changes.now table.now version self.old self.new }
         ensures lost { result ≡ is_loss self.old.state self.new.state }
     {
         let ViewState::Live(live) = &mut self.state else {
             return false;
         };
-        if live.refresh(alloc, table, steps).is_ok() {
+        if live.refresh(alloc, table, changes, steps).is_ok() {
             return false;
         }
         self.state = ViewState::Lost(version);

@@ -1,27 +1,32 @@
 ghost use Rattle.std.specs.Prelude.{◌≡◌, ◌<◌, ◌^◌, ℕ, Bool, length, IfOk, OnErr, MatchResult};
-ghost use Rattle.cell_core.specs.RawData.{raw_map};
-ghost use Rattle.cell_core.specs.RawViews.{map_view, raw_view};
+ghost use Rattle.cell_core.specs.RawViews.{raw_view};
 ghost use Rattle.frame_types.specs.Asks.{Ask};
 ghost use Rattle.frame_types.specs.Asks as ask;
 ghost use Rattle.frame_types.specs.Limits.{sessions};
-ghost use Rattle.hub_spec.specs.Answers.{is_empty_plan};
+ghost use Rattle.flat_show.specs.Plans.{IsFlatPlan};
 ghost use Rattle.hub_spec.specs.Giving.{AfterEach, AnswersAfter, IsOfViews, body_in, with_step};
 ghost use Rattle.hub_spec.specs.Ports as ports;
 ghost use Rattle.hub_views.specs.Keeping.{HasNoViews, HoldsViews, IsOpened, asked_at};
-ghost use Rattle.hub_views.specs.Refreshing.{AreLosses, HasRoom, applied_body};
+ghost use Rattle.hub_views.specs.Refreshing.{AreLosses, AreSteps, HasRoom, applied_body};
 ghost use Rattle.hub_views.specs.Tables.{HoldsTable};
+ghost use Rattle.table_core.specs.Tables.{TableData};
 
 use crate::list::{count_views, drop_view, drop_views, find_view, rebase, refresh_each};
 use crate::live::LiveView;
+use crate::plans::plan_asked;
 use crate::refused;
+use crate::showing::{show_all, show_window};
 use crate::view::{View, ViewState};
-use cell_core::{Listed, Memory, Raw, RawMap, Steps};
+use cell_core::{Listed, Memory, Raw, Steps};
 use delta_core::Mark;
+use flat_live::build;
 use frame_types::{Body, Lost, Refusal, SESSIONS};
-use plain_view::show;
+use plan_types::Plan;
+use row_batch::RowChange;
 use std::alloc::Global;
 use std::sync::ledger::Ledger;
 use table_core::Table;
+use view_kept::KeptView;
 
 /// The most views that are held, over all sessions.
 pub const MAX_VIEWS: usize = 16;
@@ -44,7 +49,7 @@ pub struct LossRoom {
 impl Views {
     /// No views. It takes no memory.
     pub fn new(alloc: Global) -> Views
-        ensures { AfterEach HasNoViews (HoldsViews result) }
+        ensures { (t : TableData) → AfterEach HasNoViews (HoldsViews result t) }
     {
         Views {
             alloc,
@@ -65,17 +70,19 @@ impl Views {
         steps: &mut Steps<L>,
     ) -> Result<Body, Refusal>
         requires { session < sessions }
-        ensures gives { AnswersAfter (λ past. HoldsViews self.old past × HoldsTable table.now version past)
-            session (ask.open_view (raw_view plan.now) bound) (body_in result) (HoldsViews self.new) }
+        ensures gives { AnswersAfter (λ past. HoldsViews self.old table.now past × HoldsTable table.now version past)
+            session (ask.open_view (raw_view plan.now) bound) (body_in result) (HoldsViews self.new table.now) }
         ensures about { (at : ℕ) → IsOfViews at (body_in result) }
     {
-        if !is_empty_plan(plan) {
-            return Err(refused::unbuilt());
-        }
+        let plan = match plan_asked(self.alloc, table.schema(), plan) {
+            Ok(Ok(plan)) => plan,
+            Ok(Err(why)) => return Err(why),
+            Err(_) => return Err(refused::memory()),
+        };
         if self.items.len() >= MAX_VIEWS {
             return Err(refused::too_many_views());
         }
-        match self.add(session, bound, table, version, steps) {
+        match self.add(session, plan, bound, table, version, steps) {
             Ok(answer) => Ok(answer),
             Err(_) => Err(refused::memory()),
         }
@@ -85,20 +92,23 @@ impl Views {
     fn add<L: Ledger>(
         &mut self,
         session: u32,
+        plan: Plan,
         bound: u64,
         table: &Table,
         version: u64,
         steps: &mut Steps<L>,
     ) -> Result<Body, Memory>
-        requires { session < sessions }
-        ensures ok { AfterEach (HoldsViews self.old) (λ past. HoldsTable table.now version past → length past < 2 ^ 53
-            → IfOk result (λ answer. IsOpened past session bound answer (HoldsViews self.new))) }
+        requires session { session < sessions }
+        requires flat { IsFlatPlan table.now.schema.columns plan }
+        ensures ok { AfterEach (HoldsViews self.old table.now) (λ past. HoldsTable table.now version past → length past < 2 ^ 53
+            → IfOk result (λ answer. IsOpened past session plan bound answer (HoldsViews self.new table.now))) }
         ensures about { (at : ℕ) → IfOk result (IsOfViews at) }
-        ensures err { AfterEach (HoldsViews self.old) (λ past. OnErr result (HoldsViews self.new past)) }
+        ensures err { AfterEach (HoldsViews self.old table.now) (λ past. OnErr result (HoldsViews self.new table.now past)) }
     {
-        let shown = show(self.alloc, table, steps)?;
+        let rows = build(self.alloc, plan, table, steps)?;
+        let shown = show_all(self.alloc, &rows)?;
         let edit = 0;
-        let live = LiveView::make(self.alloc, &shown, Mark { version, edit }, bound)?;
+        let live = LiveView::new(self.alloc, rows, Mark { version, edit }, bound);
         let number = self.opened[session as usize];
         self.items.push(View {
             session,
@@ -116,8 +126,8 @@ impl Views {
     /// Tells what changed in a view since its base, or all that it shows, where more keys were touched than
     /// its bound. `version` is how many batches were applied. The view's base is then this step.
     pub fn take(&mut self, session: u32, view: u64, version: u64) -> Result<Body, Refusal>
-        ensures gives { (wait : Bool) → AnswersAfter (λ past. HoldsViews self.old past × (version ≡ ports.version past))
-            session (ask.take view wait) (body_in result) (HoldsViews self.new) }
+        ensures gives { (t : TableData) (wait : Bool) → AnswersAfter (λ past. HoldsViews self.old t past × (version ≡ ports.version past))
+            session (ask.take view wait) (body_in result) (HoldsViews self.new t) }
         ensures about { IsOfViews version (body_in result) }
     {
         let live = self.live(session, view)?;
@@ -134,28 +144,28 @@ impl Views {
 
     /// Shows the rows of a view at positions `from` up to and without `to`.
     pub fn rows(&self, session: u32, view: u64, from: u64, to: u64) -> Result<Body, Refusal>
-        ensures gives { AnswersAfter (HoldsViews self.now) session (ask.rows view from to) (body_in result) (HoldsViews self.now) }
+        ensures gives { (t : TableData) → AnswersAfter (HoldsViews self.now t) session (ask.rows view from to) (body_in result) (HoldsViews self.now t) }
         ensures about { (at : ℕ) → IsOfViews at (body_in result) }
     {
         let live = self.live(session, view)?;
         if to < from {
             return Err(refused::bad_window(from, to));
         }
-        let Ok(shown) = live.shown.window(self.alloc, from, to) else {
+        let Ok(shown) = show_window(self.alloc, &live.rows, from, to) else {
             return Err(refused::memory());
         };
         Ok(Body::Rows {
             edit: live.edit,
             from,
             shown,
-            size: live.shown.len() as u64,
+            size: live.rows.len() as u64,
             view,
         })
     }
 
     /// Closes a view.
     pub fn close(&mut self, session: u32, view: u64) -> Result<Body, Refusal>
-        ensures gives { AnswersAfter (HoldsViews self.old) session (ask.close view) (body_in result) (HoldsViews self.new) }
+        ensures gives { (t : TableData) → AnswersAfter (HoldsViews self.old t) session (ask.close view) (body_in result) (HoldsViews self.new t) }
         ensures about { (at : ℕ) → IsOfViews at (body_in result) }
     {
         let Some(_held) = find_view(self.items.as_slice(), session, view) else {
@@ -167,7 +177,7 @@ impl Views {
 
     /// Closes all views that a session holds.
     pub fn leave(&mut self, session: u32) -> Body
-        ensures gives { AnswersAfter (HoldsViews self.old) session ask.leave result (HoldsViews self.new) }
+        ensures gives { (t : TableData) → AnswersAfter (HoldsViews self.old t) session ask.leave result (HoldsViews self.new t) }
         ensures about { (at : ℕ) → IsOfViews at result }
     {
         let closed = count_views(self.items.as_slice(), session) as u64;
@@ -183,26 +193,29 @@ impl Views {
         Ok(LossRoom { names })
     }
 
-    /// Brings each view to what the table shows once a batch more was applied, its `version`th. The answer
-    /// names the views of which that found no memory, by session and then by number. They are lost from then
-    /// on. `steps` counts the visits of rows.
+    /// Brings each view to the table's rows once a batch more was applied, its `version`th; the changes led to
+    /// them. The answer names the views of which that found no memory, by session and then by number. They are lost
+    /// from then on. `steps` counts the visits of rows.
     pub fn refresh<L: Ledger>(
         &mut self,
         table: &Table,
+        changes: &[RowChange],
         version: u64,
         room: LossRoom,
         steps: &mut Steps<L>,
     ) -> Lost
         requires { HasRoom room self.old }
-        ensures lost { AfterEach (HoldsViews self.old) (λ past. AreLosses past result) }
-        ensures holds { AfterEach (HoldsViews self.old) (λ past. (session n at port seq : ℕ) (request : Ask)
+        ensures lost { (was : TableData) → AfterEach (HoldsViews self.old was) (λ past. AreLosses past result) }
+        ensures holds { (was : TableData) → AreSteps was changes.now table.now → AfterEach (HoldsViews self.old was) (λ past. (before session n at port seq : ℕ) (request : Ask)
+            → HoldsTable was before past
             → HoldsTable table.now version (with_step session request n at (applied_body port seq result) past)
-            → HoldsViews self.new (with_step session request n at (applied_body port seq result) past)) }
+            → HoldsViews self.new table.now (with_step session request n at (applied_body port seq result) past)) }
     {
         let mut names = room.names;
         refresh_each(
             self.alloc,
             table,
+            changes,
             version,
             &mut self.items,
             &mut names,
@@ -226,20 +239,4 @@ impl Views {
             ViewState::Lost(version) => Err(refused::view_lost(*version)),
         }
     }
-}
-
-/// Whether a plan is `{}`.
-fn is_empty_plan(plan: &Raw) -> bool
-    ensures { result ≡ is_empty_plan (raw_view plan.now) }
-{
-    match plan {
-        Raw::Map(members) => has_no_members(members),
-        _ => false,
-    }
-}
-
-fn has_no_members(map: &RawMap) -> bool
-    ensures { result ≡ is_empty_plan (raw_map (map_view map.now)) }
-{
-    map.entries().is_empty()
 }

@@ -1,4 +1,4 @@
-ghost use Rattle.std.specs.Prelude.{◌≡◌, ◌-◌, [], cond, drop, length, insert, map, slice_get, take, Contains, IfOk, OnOk, OnErr, Some, None};
+ghost use Rattle.std.specs.Prelude.{◌≡◌, ◌-◌, [], cond, drop, length, insert, map, slice_get, take, IfOk, OnOk, OnErr, Some, None};
 ghost use Rattle.std.specs.Map.{keys_of};
 ghost use Rattle.std.specs.Option.{option_copied};
 ghost use Rattle.delta_core.specs.Rows.{at_key};
@@ -104,7 +104,8 @@ impl<V> LiveList<V> {
 impl<V: Drop> LiveList<V> {
     ghost use Rattle.live_list.specs.Live.{live_key};
 
-    /// Puts a row at its place. After want of memory the list is as before, and the row is gone.
+    /// Puts a row at its place. After want of memory, as which a place counts that is taken, the list is as before, and
+    /// the row is gone.
     pub fn put(
         &mut self,
         alloc: Global,
@@ -113,11 +114,13 @@ impl<V: Drop> LiveList<V> {
         value: V,
     ) -> Result<(), Memory>
         requires new_key { at_key live_key key self.old ≡ None }
-        requires new_place { ¬ Contains (keys_of self.old) place }
         ensures list { OnOk result (self.new ≡ insert self.old (place_in place_order (keys_of self.old) place) (place, record { key = key; value = value })) }
         ensures told { (k : KeyData) → OnOk result (at_key live_key k self.new ≡ cond (same_key key k) (Some (place, record { key = key; value = value })) (at_key live_key k self.old)) }
         ensures err { OnErr result (self.new ≡ self.old) }
     {
+        if self.rows.place_of(&place).is_some() {
+            return Err(Memory);
+        }
         let key_copy = key.copy(alloc)?;
         let place_copy = place.copy(alloc)?;
         self.places.insert(key_copy, place_copy)?;

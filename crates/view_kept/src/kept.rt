@@ -48,7 +48,6 @@ pub trait KeptView: ShownNow {
         touched: &mut Touched,
         steps: &mut Steps<L>,
     ) -> Result<(), Memory>
-        requires stood { (s : Side) × stands_for self.old s × IsStep s changes.now table.now }
         requires empty { touched.old.keys ≡ [] }
         requires clear { touched.old.header ≡ false }
         ensures stands { (s : Side) → stands_for self.old s → IsStep s changes.now table.now → OnOk result (stands_for self.new (side_at s table.now)) }
@@ -67,7 +66,6 @@ pub trait KeptView: ShownNow {
         touched: &mut Touched,
         steps: &mut Steps<L>,
     ) -> Result<Self, Memory>
-        requires stood { (s : Side) × stands_for self.now s × IsOfTable s table.now }
         requires fit { fits self.now plan table.now }
         requires empty { touched.old.keys ≡ [] }
         requires clear { touched.old.header ≡ false }

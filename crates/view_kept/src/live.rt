@@ -36,7 +36,6 @@ impl<V: KeptView + Drop> LiveView<V> {
         changes: &[RowChange],
         steps: &mut Steps<L>,
     ) -> Result<(), Memory>
-        requires stood { (s : Side) × V.stands_for self.old.rows s × IsStep s changes.now table.now }
         ensures stands { (s : Side) → V.stands_for self.old.rows s → IsStep s changes.now table.now → OnOk result (V.stands_for self.new.rows (side_at s table.now)) }
         ensures base { OnOk result (self.new.base ≡ self.old.base) }
         ensures dirty { (s : Side) (keys : List (ViewKey × Bool)) (header : Bool) → V.stands_for self.old.rows s → IsStep s changes.now table.now

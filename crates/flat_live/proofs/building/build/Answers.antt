@@ -18,5 +18,4 @@ returns g c = λ opening.
       fits = c.requires;
       header = head ∙ sym (header-unsplit c.args.table.now.schema.columns c.args.plan (kept c.args.plan c.args.table.now.store.pairs) c.requires.whole);
       rows = placed_kept s c.in_ok-header.header c.in_ok-rows.rows c.requires.flat c.requires.whole head c.len-size.ensures.table.distinct c.len-count.ensures.live c.in_ok-rows.ensures;
-      own = c.in_ok-rows.ensures.own;
     }

@@ -13,7 +13,7 @@ use Rattle.flat_live.proofs.changes.settle_all.Goals as goal
 
 pub loop-i-init : goal.loop-i-init
 loop-i-init c =
-    rw (all_dropped c.args.changes.now, c.new-seen.ensures, c.requires.empty) (settled_none c.args.plan.now c.args.header.now c.args.rows.now c.requires.own)
+    rw (all_dropped c.args.changes.now, c.new-seen.ensures, c.requires.empty) (settled_none c.args.plan.now c.args.header.now c.args.rows.now)
 
 pub settle_last-requires-clause-settled : goal.settle_last-requires-clause-settled
 settle_last-requires-clause-settled c = (

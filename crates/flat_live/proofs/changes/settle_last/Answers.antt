@@ -17,10 +17,11 @@ returns-then-is_some c = λ first h.
     (skipped c.args.plan.now c.args.header.now first c.index-changes-at.result (drop (c.args.at + 1) c.args.changes.now) c.args.seen.now c.args.rows.now c.args.touched.now h
     (ap (λ z. is_some (lookup (same_key (Row z)) c.args.seen.now)) (sym c.in_ok-copy.ensures) ∙ ap is_some (sym c.get.ensures) ∙ copied_some c.get.result ∙ sym c.is_some.ensures ∙ c.if-is_some.true))
 
-pub settle-requires-clause-unknown : goal.settle-requires-clause-unknown
-settle-requires-clause-unknown c =
-    unknown c.args.plan.now c.args.header.now (c.requires.settled).0 c.index-changes-at.result (drop (c.args.at + 1) c.args.changes.now) c.args.seen.now c.args.rows.now c.args.touched.now (c.requires.settled).1
-    (ap (λ z. is_some (lookup (same_key (Row z)) c.args.seen.now)) (sym c.in_ok-copy.ensures) ∙ ap is_some (sym c.get.ensures) ∙ copied_some c.get.result ∙ sym c.is_some.ensures ∙ c.if-is_some.false)
+pub settle-requires : goal.settle-requires
+settle-requires c = record {
+  unknown = unknown c.args.plan.now c.args.header.now (c.requires.settled).0 c.index-changes-at.result (drop (c.args.at + 1) c.args.changes.now) c.args.seen.now c.args.rows.now c.args.touched.now (c.requires.settled).1
+      (ap (λ z. is_some (lookup (same_key (Row z)) c.args.seen.now)) (sym c.in_ok-copy.ensures) ∙ ap is_some (sym c.get.ensures) ∙ copied_some c.get.result ∙ sym c.is_some.ensures ∙ c.if-is_some.false);
+}
 
 pub returns : goal.returns
 returns c = λ first h.
@@ -29,4 +30,4 @@ returns c = λ first h.
     (acted_ok c.settle.result c.args.plan.now c.args.header.now first c.index-changes-at.result (drop (c.args.at + 1) c.args.changes.now) c.args.seen.now c.insert.new.self c.args.rows.now c.settle.new.rows c.args.touched.now c.settle.new.touched h
     (ap (λ z. is_some (lookup (same_key (Row z)) c.args.seen.now)) (sym c.in_ok-copy.ensures) ∙ ap is_some (sym c.get.ensures) ∙ copied_some c.get.result ∙ sym c.is_some.ensures ∙ c.if-is_some.false)
     (λ k. c.in_ok-insert.ensures.ok k ∙ ap (λ z. cond (same_key (Row z) k) (Some true) (lookup (same_key k) c.args.seen.now)) c.in_ok-copy.ensures)
-    c.settle.ensures.own c.settle.ensures.rows c.settle.ensures.touched)
+    c.settle.ensures.rows c.settle.ensures.touched)

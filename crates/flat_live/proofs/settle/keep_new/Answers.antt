@@ -9,13 +9,17 @@ use Rattle.flat_live.specs.Rows.{live_at}
 use Rattle.flat_live.proofs.Options.{none_there, ok_map}
 use Rattle.flat_live.proofs.settle.keep_new.Goals as goal
 
-pub returns-in-None-clause-rows : goal.returns-in-None-clause-rows
-returns-in-None-clause-rows c = λ k.
-    none_there (λ q. at_key live_key q c.args.rows.now) (Row c.args.change.now.key) k c.requires.absent
-    ∙ ap (λ o. cond (same_key (Row c.args.change.now.key) k) (live_at c.args.plan.now (option_map (pair_of c.args.change.now.key) o)) (at_key live_key k c.args.rows.now)) (sym c.in-None.is)
+pub returns-in-None : goal.returns-in-None
+returns-in-None c = record {
+  rows = λ k.
+      none_there (λ q. at_key live_key q c.args.rows.now) (Row c.args.change.now.key) k c.requires.absent
+      ∙ ap (λ o. cond (same_key (Row c.args.change.now.key) k) (live_at c.args.plan.now (option_map (pair_of c.args.change.now.key) o)) (at_key live_key k c.args.rows.now)) (sym c.in-None.is);
+}
 
-pub returns-in-Some-clause-rows : goal.returns-in-Some-clause-rows
-returns-in-Some-clause-rows c = λ k.
-    ok_map c.keep.result
-    (λ h. h ∙ ap (λ o. cond (same_key (Row c.args.change.now.key) k) (live_at c.args.plan.now (option_map (pair_of c.args.change.now.key) o)) (at_key live_key k c.args.rows.now)) (sym c.in-Some.is))
-    (c.keep.ensures.rows k)
+pub returns-in-Some : goal.returns-in-Some
+returns-in-Some c = record {
+  rows = λ k.
+      ok_map c.keep.result
+      (λ h. h ∙ ap (λ o. cond (same_key (Row c.args.change.now.key) k) (live_at c.args.plan.now (option_map (pair_of c.args.change.now.key) o)) (at_key live_key k c.args.rows.now)) (sym c.in-Some.is))
+      (c.keep.ensures.rows k);
+}

@@ -4,19 +4,16 @@ use Rattle.view_types.specs.Keys.{same_key}
 use Rattle.view_types.specs.declared.key.ViewKey.TheVariants.{Row}
 use Rattle.live_list.specs.Live.{live_key}
 use Rattle.flat_live.specs.Rows.{live_of}
-use Rattle.flat_live.proofs.Keeps.{own_none}
 use Rattle.flat_live.proofs.Options.{itself, ok_map}
 use Rattle.flat_live.proofs.Settles.{noted}
 use Rattle.flat_live.proofs.settle.settle.Goals as goal
 
-pub keep_new-requires-clause-own : goal.keep_new-requires-clause-own
-keep_new-requires-clause-own c = own_none c.args.rows.now c.take-was.new.self (Row c.in_ok-copy.field-0) c.requires.own c.take-was.ensures.told
-
-pub keep_new-requires-clause-absent : goal.keep_new-requires-clause-absent
-keep_new-requires-clause-absent c =
-    c.take-was.ensures.told (Row c.args.change.now.key)
-    ∙ ap (λ z. cond (same_key (Row z) (Row c.args.change.now.key)) None (at_key live_key (Row c.args.change.now.key) c.args.rows.now)) c.in_ok-copy.ensures
-    ∙ itself (Row c.args.change.now.key) None (at_key live_key (Row c.args.change.now.key) c.args.rows.now)
+pub keep_new-requires : goal.keep_new-requires
+keep_new-requires c = record {
+  absent = c.take-was.ensures.told (Row c.args.change.now.key)
+      ∙ ap (λ z. cond (same_key (Row z) (Row c.args.change.now.key)) None (at_key live_key (Row c.args.change.now.key) c.args.rows.now)) c.in_ok-copy.ensures
+      ∙ itself (Row c.args.change.now.key) None (at_key live_key (Row c.args.change.now.key) c.args.rows.now);
+}
 
 pub returns-clause-touched : goal.returns-clause-touched
 returns-clause-touched c = λ k.

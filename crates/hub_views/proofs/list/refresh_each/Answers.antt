@@ -1,5 +1,4 @@
 use Rattle.std.proofs.Common.{◌≡◌, ◌++◌, List, get_or, set, length, refl, sym, ap, ◌∙◌, arith}
-use Rattle.plain_view.specs.Flat.{flat_view}
 use Rattle.hub_views.proofs.Refreshes.{IsSoFar, loss, one_more, noted_loss, no_loss}
 use Rattle.hub_views.proofs.list.refresh_each.Goals as goal
 use Rattle.hub_views.proofs.list.refresh_each.Goals.{then-refresh, else-refresh}
@@ -11,21 +10,22 @@ loop-view-preserved g c =
     let d = c.view-item.result in
     let v = get_or views i d in
     let w = c.refresh.new.self in
-    let now = flat_view c.args.table.now.schema c.args.table.now.store.pairs in
+    let now = c.args.table.now in
+    let changes = c.args.changes.now in
     let inv = c.loop-view.invariant in
     let noted = c.args.lost.now.items in
     let before = c.loop-view.lost.items in
     elim c.if-refresh.branch [
       | then-refresh b ↦ record {
         so_far = rw (b.view-items-is, b.lost-is)
-            (one_more now c.args.version c.args.views.now.items views noted before _ i d w (omega arith) c.refresh.ensures.refreshed
-            (b.push_reserved.ensures.items ∙ noted_loss before now c.args.version v w (sym c.refresh.ensures.lost ∙ b.if-refresh.true) c.refresh.ensures.refreshed) inv.so_far);
+            (one_more changes now c.args.version c.args.views.now.items views noted before _ i d w (omega arith) c.refresh.ensures.refreshed
+            (b.push_reserved.ensures.items ∙ noted_loss before changes now c.args.version v w (sym c.refresh.ensures.lost ∙ b.if-refresh.true) c.refresh.ensures.refreshed) inv.so_far);
         room = rw b.lost-is (omega arith);
         capacity = rw b.lost-is (b.push_reserved.ensures.capacity ∙ inv.capacity);
       }
       | else-refresh b ↦ record {
         so_far = rw (b.view-items-is, b.lost-is)
-            (one_more now c.args.version c.args.views.now.items views noted before before i d w (omega arith) c.refresh.ensures.refreshed
+            (one_more changes now c.args.version c.args.views.now.items views noted before before i d w (omega arith) c.refresh.ensures.refreshed
             (no_loss before v w (sym c.refresh.ensures.lost ∙ b.if-refresh.false)) inv.so_far);
         room = rw b.lost-is (omega arith);
         capacity = rw b.lost-is inv.capacity;

@@ -16,7 +16,6 @@ returns-clause-stands c = λ s st step. record {
   fits = subst (λ cs. IsFlatPlan cs s.plan) (sym step.columns) st.fits;
   header = st.header ∙ header_at s c.args.table.now st.fits.whole step.columns;
   rows = placed_settled s c.args.self.now.header c.args.self.now.rows c.settle_all.new.rows c.args.changes.now (steps_of s c.args.self.now.plan c.args.self.now.header c.args.self.now.rows c.settle_all.new.rows c.args.changes.now c.args.table.now st.plan st.header st.fits st.rows step c.len-size.ensures.table.distinct c.len-count.ensures.live c.in_ok-settle_all.ensures.rows) ∙ placed_at s c.args.changes.now c.args.table.now step c.len-size.ensures.table.distinct;
-  own = c.in_ok-settle_all.ensures.own;
 }
 
 pub returns-clause-keys : goal.returns-clause-keys

@@ -17,7 +17,7 @@ returns-in-Port-clause-gives g c = λ past h few. rw c.in-Port.is (c.make_port.e
 pub returns-in-Leave-clause-gives : goal.returns-in-Leave-clause-gives
 returns-in-Leave-clause-gives g c = λ past h few.
     let e = c.args.self.now in
-    rw c.in-Leave.is (views_give e.table e.version e.ports e.views _ past c.args.session 0 ask.leave _ h (c.leave.ensures.about 0) (c.leave.ensures.gives past h.views few))
+    rw c.in-Leave.is (views_give e.table e.version e.ports e.views _ past c.args.session 0 ask.leave _ h (c.leave.ensures.about 0) (c.leave.ensures.gives e.table past h.views few))
 
 pub returns-in-Info-clause-gives : goal.returns-in-Info-clause-gives
 returns-in-Info-clause-gives g c = λ past h few. rw c.in-Info.is (c.info.ensures.gives c.args.session past h few)
@@ -55,19 +55,19 @@ returns-in-Take-clause-gives g c = λ past h few.
     let e = c.args.self.now in
     rw c.in-Take.is
     (views_give e.table e.version e.ports e.views _ past c.args.session e.version (ask.take c.in-Take.view c.in-Take.wait) _ h c.take.ensures.about
-    (c.take.ensures.gives c.in-Take.wait past (h.views, h.table.number) few))
+    (c.take.ensures.gives e.table c.in-Take.wait past (h.views, h.table.number) few))
 
 pub returns-in-Rows-clause-gives : goal.returns-in-Rows-clause-gives
 returns-in-Rows-clause-gives g c = λ past h few.
     let e = c.args.self.now in
     rw c.in-Rows.is
-    (views_give e.table e.version e.ports e.views _ past c.args.session 0 (ask.rows c.in-Rows.view c.in-Rows.from c.in-Rows.to) _ h (c.rows.ensures.about 0) (c.rows.ensures.gives past h.views few))
+    (views_give e.table e.version e.ports e.views _ past c.args.session 0 (ask.rows c.in-Rows.view c.in-Rows.from c.in-Rows.to) _ h (c.rows.ensures.about 0) (c.rows.ensures.gives e.table past h.views few))
 
 pub returns-in-Close-clause-gives : goal.returns-in-Close-clause-gives
 returns-in-Close-clause-gives g c = λ past h few.
     let e = c.args.self.now in
     rw c.in-Close.is
-    (views_give e.table e.version e.ports e.views _ past c.args.session 0 (ask.close c.in-Close.view) _ h (c.close.ensures.about 0) (c.close.ensures.gives past h.views few))
+    (views_give e.table e.version e.ports e.views _ past c.args.session 0 (ask.close c.in-Close.view) _ h (c.close.ensures.about 0) (c.close.ensures.gives e.table past h.views few))
 
 pub returns-clause-gives : goal.returns-clause-gives
 returns-clause-gives g c = λ past h few.

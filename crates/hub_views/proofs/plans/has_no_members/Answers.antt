@@ -3,8 +3,8 @@ use Rattle.std.proofs.lemmas.Bool.{false≢true}
 use Rattle.cell_core.specs.RawData.{raw_map}
 use Rattle.cell_core.specs.RawViews.{raw_view, members_of}
 use Rattle.cell_core.specs.declared.raw.Raw.{Raw}
-use Rattle.hub_spec.specs.Answers.{is_empty_plan}
-use Rattle.hub_views.proofs.views.has_no_members.Goals as goal
+use Rattle.hub_spec.specs.Plans.{is_empty_plan}
+use Rattle.hub_views.proofs.plans.has_no_members.Goals as goal
 
 no_members : (r : Bool) (entries : List (List ℕ × Raw)) → (IsTrue r ↔ (length entries ≡ 0))
     → r ≡ is_empty_plan (raw_map (members_of (map (λ m. (m.0, raw_view m.1)) entries)))

@@ -1,9 +1,0 @@
-pub mod ByKeyLaws
-pub mod CellLaws
-pub mod DistinctLaws
-pub mod OrderLaws
-pub mod PlaceLaws
-pub mod RowLaws
-pub mod SortLaws
-pub mod StepLaws
-pub mod TouchLaws
