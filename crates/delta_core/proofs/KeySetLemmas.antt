@@ -13,6 +13,7 @@ use Rattle.view_types.specs.declared.key.ViewKey.{ViewKey}
 use Rattle.delta_core.specs.DirtySets.{with_touched, joined}
 use Rattle.delta_core.specs.KeySets.{with_key, with_keys, is_among}
 use Rattle.delta_core.specs.Laws.{Ascends, IsOneWay}
+use Rattle.delta_core.specs.declared.touched.Touch.{Touch}
 use Rattle.view_types.proofs.KeyOrder.{exact, total, same_key_is_equal, same_key_itself}
 use Rattle.delta_core.proofs.Rests.{same_ascending}
 
@@ -137,16 +138,16 @@ same_members ks others up down same =
 -- ---- keys beside what is known of them
 
 -- each key beside what f says of it
-abbrev pub beside : (ViewKey → Bool) → List ViewKey → List (ViewKey × Bool)
-beside f ks = map (λ k. (k, f k)) ks
+abbrev pub beside : (ViewKey → Bool) → List ViewKey → List (ViewKey × Touch)
+beside f ks = map (λ k. (k, record { was_shown = f k })) ks
 
 pub keys_of-beside : (f : ViewKey → Bool) (ks : List ViewKey) → keys_of (beside f ks) ≡ ks
 keys_of-beside f [] = refl
 keys_of-beside f (k ∷ ks) = ap (λ later. k ∷ later) (keys_of-beside f ks)
 
-pub All-beside : (f : ViewKey → Bool) (ks : List ViewKey) → All (λ (e : ViewKey × Bool). e.1 ≡ f e.0) (beside f ks)
-All-beside f [] = All-nil (λ (e : ViewKey × Bool). e.1 ≡ f e.0)
-All-beside f (k ∷ ks) = All-cons (λ (e : ViewKey × Bool). e.1 ≡ f e.0) (k, f k) (beside f ks) refl (All-beside f ks)
+pub All-beside : (f : ViewKey → Bool) (ks : List ViewKey) → All (λ (e : ViewKey × Touch). e.1.was_shown ≡ f e.0) (beside f ks)
+All-beside f [] = All-nil (λ (e : ViewKey × Touch). e.1.was_shown ≡ f e.0)
+All-beside f (k ∷ ks) = All-cons (λ (e : ViewKey × Touch). e.1.was_shown ≡ f e.0) (k, record { was_shown = f k }) (beside f ks) refl (All-beside f ks)
 
 not_among : (k : ViewKey) (xs : List ViewKey) → AllByRecursion (λ y. key_order k y ≡ Less) xs → is_among xs k ≡ false
 not_among k [] all = refl
@@ -154,21 +155,21 @@ not_among k (x ∷ xs) all = or_from (same_key k x) (is_among xs k) (ap is_eq al
 
 beside_step : (f g : ViewKey → Bool) (x k : ViewKey) (xs : List ViewKey) (o : Ordering) → key_order k x ≡ o → IsStrictlySortedBy key_order (x ∷ xs)
     → (is_among (x ∷ xs) k ≡ false → f k ≡ g k)
-    → ((is_among xs k ≡ false → f k ≡ g k) → beside f (with_key xs k) ≡ with_touched (beside f xs) (k, g k))
+    → ((is_among xs k ≡ false → f k ≡ g k) → beside f (with_key xs k) ≡ with_touched (beside f xs) (k, record { was_shown = g k }))
     → beside f (match_ordering o (k ∷ x ∷ xs) (x ∷ xs) (x ∷ with_key xs k))
-    ≡ match_ordering o ((k, g k) ∷ beside f (x ∷ xs)) (beside f (x ∷ xs)) ((x, f x) ∷ with_touched (beside f xs) (k, g k))
+    ≡ match_ordering o ((k, record { was_shown = g k }) ∷ beside f (x ∷ xs)) (beside f (x ∷ xs)) ((x, record { was_shown = f x }) ∷ with_touched (beside f xs) (k, record { was_shown = g k }))
 beside_step f g x k xs Less is up same later =
     let behind = all_behind k x xs is (sorted_head key_order x xs up) in
     let other : is_among (x ∷ xs) k ≡ false = or_from (same_key k x) (is_among xs k) (ap is_eq is) (not_among k xs behind) in
-    ap (λ b. (k, b) ∷ beside f (x ∷ xs)) (same other)
+    ap (λ b. (k, record { was_shown = b }) ∷ beside f (x ∷ xs)) (same other)
 beside_step f g x k xs Equal is up same later = refl
 beside_step f g x k xs Greater is up same later =
-    ap (λ es. (x, f x) ∷ es) (later (λ off. same (or_from (same_key k x) (is_among xs k) (ap is_eq is) off)))
+    ap (λ es. (x, record { was_shown = f x }) ∷ es) (later (λ off. same (or_from (same_key k x) (is_among xs k) (ap is_eq is) off)))
 
 -- a key more, of which g says what f says unless it is there
 pub beside-with_key : (f g : ViewKey → Bool) (ks : List ViewKey) (k : ViewKey) → IsStrictlySortedBy key_order ks → (is_among ks k ≡ false → f k ≡ g k)
-    → beside f (with_key ks k) ≡ with_touched (beside f ks) (k, g k)
-beside-with_key f g [] k up same = ap (λ b. (k, b) ∷ []) (same refl)
+    → beside f (with_key ks k) ≡ with_touched (beside f ks) (k, record { was_shown = g k })
+beside-with_key f g [] k up same = ap (λ b. (k, record { was_shown = b }) ∷ []) (same refl)
 beside-with_key f g (x ∷ xs) k up same =
     beside_step f g x k xs (key_order k x) refl up same (beside-with_key f g xs k (sorted_tail key_order x xs up))
 

@@ -3,7 +3,6 @@ pub mod DistinctRows
 pub mod FoldChecks
 pub mod FoldRows
 pub mod GapMoves
-pub mod KeyLemmas
 pub mod KeySetLemmas
 pub mod PutRows
 pub mod Rests

@@ -18,6 +18,7 @@ use Rattle.delta_core.specs.Laws.{Agree, Ascends, DeltasRestore, FoldsTo, IsOneW
 use Rattle.delta_core.specs.Rows.{at_key, has_row}
 use Rattle.delta_core.specs.declared.delta.Mark.{Mark}
 use Rattle.delta_core.specs.declared.delta.Put.{Put}
+use Rattle.delta_core.specs.declared.touched.Touch.{Touch}
 use Rattle.view_types.proofs.KeyOrder.{same_key_is_equal, same_key_itself, same_key-other, same_key-symm}
 
 -- ---- parts of a list
@@ -182,20 +183,20 @@ puts_restore keys before (r ∷ rows) =
 -- ---- which keys a delta drops
 
 abbrev pub Flagged : Type 0
-Flagged = ViewKey × Bool
+Flagged = ViewKey × Touch
 
 -- the key was shown and is not shown now
 abbrev is_gone : List ShownRow → Flagged → Bool
-is_gone now e = e.1 && not (has_row e.0 now)
+is_gone now e = e.1.was_shown && not (has_row e.0 now)
 
 removes_step : (now : List ShownRow) (k : ViewKey) (e : Flagged) (gone keys : List Flagged) (same b : Bool) → same_key k e.0 ≡ same → is_gone now e ≡ b
-    → (k ≡ e.0 → e.1 ≡ true) → is_among (keys_of gone) k ≡ (is_among (keys_of keys) k && not (has_row k now))
+    → (k ≡ e.0 → e.1.was_shown ≡ true) → is_among (keys_of gone) k ≡ (is_among (keys_of keys) k && not (has_row k now))
     → is_among (keys_of (cond b (e ∷ gone) gone)) k ≡ ((same || is_among (keys_of keys) k) && not (has_row k now))
 removes_step now k e gone keys false true is test flag later = rw is later
 removes_step now k e gone keys false false is test flag later = later
 removes_step now k e gone keys true true is test flag later =
     let same = same_key_is_equal k e.0 is in
-    let other : not (has_row e.0 now) ≡ true = (and_parts e.1 (not (has_row e.0 now)) test).1 in
+    let other : not (has_row e.0 now) ≡ true = (and_parts e.1.was_shown (not (has_row e.0 now)) test).1 in
     rw is (sym other ∙ ap (λ j. not (has_row j now)) (sym same))
 removes_step now k e gone keys true false is test flag later =
     let same = same_key_is_equal k e.0 is in
@@ -203,13 +204,13 @@ removes_step now k e gone keys true false is test flag later =
     later ∙ and_right (is_among (keys_of keys) k) (not (has_row k now)) other ∙ sym other
 
 -- a shown key is removed where it was touched and is shown no longer
-removes : (was now : List ShownRow) (k : ViewKey) → has_row k was ≡ true → (keys : List Flagged) → All (λ (e : Flagged). e.1 ≡ has_row e.0 was) keys
+removes : (was now : List ShownRow) (k : ViewKey) → has_row k was ≡ true → (keys : List Flagged) → All (λ (e : Flagged). e.1.was_shown ≡ has_row e.0 was) keys
     → is_among (removed_keys keys now) k ≡ (is_among (keys_of keys) k && not (has_row k now))
 removes was now k shown [] marked = refl
 removes was now k shown (e ∷ keys) marked =
     removes_step now k e (filter (is_gone now) keys) keys (same_key k e.0) (is_gone now e) refl refl
-    (λ same. All-head (λ (e : Flagged). e.1 ≡ has_row e.0 was) e keys marked ∙ ap (λ j. has_row j was) (sym same) ∙ shown)
-    (removes was now k shown keys (All-tail (λ (e : Flagged). e.1 ≡ has_row e.0 was) e keys marked))
+    (λ same. All-head (λ (e : Flagged). e.1.was_shown ≡ has_row e.0 was) e keys marked ∙ ap (λ j. has_row j was) (sym same) ∙ shown)
+    (removes was now k shown keys (All-tail (λ (e : Flagged). e.1.was_shown ≡ has_row e.0 was) e keys marked))
 
 pub has_row-step : (k : ViewKey) (r : ShownRow) (rows : List ShownRow) → has_row k (r ∷ rows) ≡ (same_key k r.key || has_row k rows)
 has_row-step k r rows = at_side (same_key r.key k) refl
@@ -245,7 +246,7 @@ either_way false h = refl
 
 -- a shown key is dropped where it was touched
 drops_touched : (keys : List Flagged) (header : Bool) (was : List ShownRow) (now : Shown) (start end : Mark) (k : ViewKey) → has_row k was ≡ true
-    → All (λ (e : Flagged). e.1 ≡ has_row e.0 was) keys → drops (delta_of keys header now start end) k ≡ is_among (keys_of keys) k
+    → All (λ (e : Flagged). e.1.was_shown ≡ has_row e.0 was) keys → drops (delta_of keys header now start end) k ≡ is_among (keys_of keys) k
 drops_touched keys header was now start end k shown marked =
     let removed = removes was now.rows k shown keys marked in
     let put = puts_are (keys_of keys) k 0 now.rows in
@@ -268,7 +269,7 @@ all_shown (r ∷ rows) =
     (λ q shown. has_row-step q.key r rows ∙ or_right (same_key q.key r.key) (has_row q.key rows) shown) rows (all_shown rows))
 
 -- what a client holds after the drops is what is left outside the touched keys
-left_by_drops : (keys : List Flagged) (header : Bool) (was : List ShownRow) (now : Shown) (start end : Mark) → All (λ (e : Flagged). e.1 ≡ has_row e.0 was) keys
+left_by_drops : (keys : List Flagged) (header : Bool) (was : List ShownRow) (now : Shown) (start end : Mark) → All (λ (e : Flagged). e.1.was_shown ≡ has_row e.0 was) keys
     → filter (λ (r : ShownRow). not (drops (delta_of keys header now start end) r.key)) was ≡ left (keys_of keys) was
 left_by_drops keys header was now start end marked =
     filters_agree (λ (r : ShownRow). not (drops (delta_of keys header now start end) r.key)) (λ (r : ShownRow). not (is_among (keys_of keys) r.key)) was
@@ -278,19 +279,19 @@ left_by_drops keys header was now start end marked =
 
 -- ---- a delta's faults
 
-absent_step : (was : List ShownRow) (e : Flagged) (now : List ShownRow) (gone : List Flagged) (b : Bool) → is_gone now e ≡ b → e.1 ≡ has_row e.0 was
+absent_step : (was : List ShownRow) (e : Flagged) (now : List ShownRow) (gone : List Flagged) (b : Bool) → is_gone now e ≡ b → e.1.was_shown ≡ has_row e.0 was
     → find (λ k. not (has_row k was)) (keys_of gone) ≡ None → find (λ k. not (has_row k was)) (keys_of (cond b (e ∷ gone) gone)) ≡ None
 absent_step was e now gone true test marked later =
-    let shown : has_row e.0 was ≡ true = sym marked ∙ (and_parts e.1 (not (has_row e.0 now)) test).0 in
+    let shown : has_row e.0 was ≡ true = sym marked ∙ (and_parts e.1.was_shown (not (has_row e.0 now)) test).0 in
     rw shown later
 absent_step was e now gone false test marked later = later
 
 -- each removed key was shown
-none_absent : (was now : List ShownRow) (keys : List Flagged) → All (λ (e : Flagged). e.1 ≡ has_row e.0 was) keys → find (λ k. not (has_row k was)) (removed_keys keys now) ≡ None
+none_absent : (was now : List ShownRow) (keys : List Flagged) → All (λ (e : Flagged). e.1.was_shown ≡ has_row e.0 was) keys → find (λ k. not (has_row k was)) (removed_keys keys now) ≡ None
 none_absent was now [] marked = refl
 none_absent was now (e ∷ keys) marked =
-    absent_step was e now (filter (is_gone now) keys) (is_gone now e) refl (All-head (λ (e : Flagged). e.1 ≡ has_row e.0 was) e keys marked)
-    (none_absent was now keys (All-tail (λ (e : Flagged). e.1 ≡ has_row e.0 was) e keys marked))
+    absent_step was e now (filter (is_gone now) keys) (is_gone now e) refl (All-head (λ (e : Flagged). e.1.was_shown ≡ has_row e.0 was) e keys marked)
+    (none_absent was now keys (All-tail (λ (e : Flagged). e.1.was_shown ≡ has_row e.0 was) e keys marked))
 
 same_mark : (m : Mark) → is_same_mark m m ≡ true
 same_mark m = let versions = eq-eqb m.version m.version refl in let edits = eq-eqb m.edit m.edit refl in rw (versions, edits) refl
@@ -302,7 +303,7 @@ header_sent false was now same = same refl
 -- ---- folding
 
 pub rests_fold : (keys : List Flagged) (header : Bool) (was now : Shown) (start end : Mark) → left (keys_of keys) was.rows ≡ left (keys_of keys) now.rows
-    → All (λ (e : Flagged). e.1 ≡ has_row e.0 was.rows) keys → (header ≡ false → was.header ≡ now.header) → FoldsTo keys header was now start end
+    → All (λ (e : Flagged). e.1.was_shown ≡ has_row e.0 was.rows) keys → (header ≡ false → was.header ≡ now.header) → FoldsTo keys header was now start end
 rests_fold keys header was now start end same marked headers =
     let dropped = left_by_drops keys header was.rows now start end marked ∙ same in
     let restored = puts_restore (keys_of keys) [] now.rows in
@@ -333,7 +334,7 @@ module _ {X : Type 0} (key_of : X → ViewKey) (row_of : X → ShownRow) (is_key
   -- delta into the rows of the first gives the rows of the second
   pub fold_restores : (before : X → X → Bool) (keys : List Flagged) (header : Bool) (was now : List HeaderColumn) (xs ys : List X) (start end : Mark)
       → IsOneWay before → Ascends before xs → Ascends before ys → AreDistinct (map key_of xs) → AreDistinct (map key_of ys) → Agree key_of (keys_of keys) xs ys
-      → All (λ (e : Flagged). e.1 ≡ has_row e.0 (map row_of xs)) keys → (header ≡ false → was ≡ now)
+      → All (λ (e : Flagged). e.1.was_shown ≡ has_row e.0 (map row_of xs)) keys → (header ≡ false → was ≡ now)
       → FoldsTo keys header (record { header = was; rows = map row_of xs }) (record { header = now; rows = map row_of ys }) start end
   fold_restores before keys header was now xs ys start end one_way up down distinct distinct_too agree marked headers =
       let same = same_rests key_of before (keys_of keys) xs ys one_way up down distinct distinct_too agree in

@@ -8,14 +8,15 @@ use Rattle.delta_core.specs.Rows.{has_row}
 use Rattle.delta_core.specs.declared.delta.Delta.{Delta}
 use Rattle.delta_core.specs.declared.delta.Mark.{Mark}
 use Rattle.delta_core.specs.declared.delta.Put.{Put}
+use Rattle.delta_core.specs.declared.touched.Touch.{Touch}
 
--- the keys that were shown before and are not shown now; each key stands beside whether it was shown
-abbrev pub removed_keys : List (ViewKey × Bool) → List ShownRow → List ViewKey
-removed_keys keys now = map (λ e. e.0) (filter (λ e. e.1 && not (has_row e.0 now)) keys)
+-- the keys that were shown before and are not shown now
+abbrev pub removed_keys : List (ViewKey × Touch) → List ShownRow → List ViewKey
+removed_keys keys now = map (λ e. e.0) (filter (λ e. e.1.was_shown && not (has_row e.0 now)) keys)
 
 -- each key beside whether it stands among the rows
-abbrev pub marked : List ShownRow → List ViewKey → List (ViewKey × Bool)
-marked rows keys = map (λ k. (k, has_row k rows)) keys
+abbrev pub marked : List ShownRow → List ViewKey → List (ViewKey × Touch)
+marked rows keys = map (λ k. (k, record { was_shown = has_row k rows })) keys
 
 -- the rows whose keys are among those of a set, each with its position, by position
 abbrev pub puts_from : List ViewKey → ℕ → List ShownRow → List Put
@@ -30,7 +31,7 @@ sent touched header = if touched then Some header else None
 
 -- the delta from one mark to another of a view that shows this now, where these keys were touched, each
 -- beside whether it was shown at the first mark
-abbrev pub delta_of : List (ViewKey × Bool) → Bool → Shown → Mark → Mark → Delta
+abbrev pub delta_of : List (ViewKey × Touch) → Bool → Shown → Mark → Mark → Delta
 delta_of keys header now start end = record {
   «from» = start;
   to = end;

@@ -10,6 +10,7 @@ use Rattle.delta_core.specs.KeySets.{is_among}
 use Rattle.delta_core.specs.Rows.{at_key, has_row}
 use Rattle.delta_core.specs.declared.delta.Mark.{Mark}
 use Rattle.delta_core.specs.declared.folding.Held.{Held}
+use Rattle.delta_core.specs.declared.touched.Touch.{Touch}
 use Rattle.plain_data.specs.Distinct.{AreDistinct}
 
 -- no two stand before one another
@@ -49,18 +50,18 @@ RestsAreEqual P = (before : P × ShownRow → P × ShownRow → Bool) (keys : Li
 
 -- rows that were shown and rows that are: both ascend by one order and have no key twice, and they agree outside
 -- the touched keys, beside each of which stands whether it was shown
-pub record IsUpdate {P : Type 0} (before : P × ShownRow → P × ShownRow → Bool) (keys : List (ViewKey × Bool)) (was now : List (P × ShownRow)) : Type 0 where
+pub record IsUpdate {P : Type 0} (before : P × ShownRow → P × ShownRow → Bool) (keys : List (ViewKey × Touch)) (was now : List (P × ShownRow)) : Type 0 where
   pub one_way : IsOneWay before
   pub first : Ascends before was
   pub last : Ascends before now
   pub first_keys : AreDistinct (map key_in was)
   pub last_keys : AreDistinct (map key_in now)
   pub agree : Agree key_in (map (λ e. e.0) keys) was now
-  pub flags : All (λ (e : ViewKey × Bool). e.1 ≡ has_row e.0 (rows_in was)) keys
+  pub flags : All (λ (e : ViewKey × Touch). e.1.was_shown ≡ has_row e.0 (rows_in was)) keys
 
 -- the delta for these keys folds without fault into what was shown at the first mark, and gives what is shown at
 -- the second
-abbrev pub FoldsTo : List (ViewKey × Bool) → Bool → Shown → Shown → Mark → Mark → Type 0
+abbrev pub FoldsTo : List (ViewKey × Touch) → Bool → Shown → Shown → Mark → Mark → Type 0
 FoldsTo keys header was now start end =
     let held : Held = record { shown = was; mark = start } in
     (fold_fault held (delta_of keys header now start end) ≡ None)
@@ -68,6 +69,6 @@ FoldsTo keys header was now start end =
 
 -- so does the delta of an update, where the header is the same or was touched
 abbrev pub DeltasRestore : Type 0 → Type 0
-DeltasRestore P = (before : P × ShownRow → P × ShownRow → Bool) (keys : List (ViewKey × Bool)) (header : Bool) (head head_now : List HeaderColumn)
+DeltasRestore P = (before : P × ShownRow → P × ShownRow → Bool) (keys : List (ViewKey × Touch)) (header : Bool) (head head_now : List HeaderColumn)
     (was now : List (P × ShownRow)) (start end : Mark) → IsUpdate before keys was now → (header ≡ false → head ≡ head_now)
     → FoldsTo keys header (record { header = head; rows = rows_in was }) (record { header = head_now; rows = rows_in now }) start end

@@ -5,6 +5,7 @@ ghost use Rattle.view_types.specs.declared.shown.Shown.{Shown};
 ghost use Rattle.delta_core.specs.Deltas.{delta_of};
 ghost use Rattle.delta_core.specs.DirtySets.{dirty_of, joined, is_empty};
 ghost use Rattle.delta_core.specs.Rows.{position_of, row_at};
+ghost use Rattle.delta_core.specs.declared.touched.Touch.{Touch};
 
 use crate::delta::{Delta, Mark};
 use crate::making::{puts_of, removed_of};
@@ -35,8 +36,8 @@ pub trait ShownNow {
 /// The keys that steps touched since it was made or cleared, and whether one touched the header. Once the
 /// keys are more than the bound it knows only that.
 ///
-/// Contracts see it as `dirty_of` of the union of all keys that were joined, each beside whether it was shown
-/// before the step that touched it first.
+/// Contracts see it as `dirty_of` of the union of all keys that were joined, each beside what is known of it from
+/// the step that touched it first.
 #[derive(Debug, Drop)]
 pub struct DirtySet {
     bound: u64,
@@ -69,7 +70,7 @@ impl DirtySet {
     /// Joins what a step touched, in the time of a look-up for each key that it touched. After want of memory
     /// the set is as before.
     pub fn join(&mut self, alloc: Global, touched: &Touched) -> Result<(), Memory>
-        ensures ok { (keys : List (ViewKey × Bool)) (header : Bool) → self.old ≡ dirty_of self.old.bound keys header
+        ensures ok { (keys : List (ViewKey × Touch)) (header : Bool) → self.old ≡ dirty_of self.old.bound keys header
             → OnOk result (self.new ≡ dirty_of self.old.bound (joined keys touched.now.keys) (header || touched.now.header)) }
         ensures err { OnErr result (self.new ≡ self.old) }
     {
@@ -81,7 +82,7 @@ impl DirtySet {
     /// Whether more keys than the bound were joined.
     pub fn is_over(&self) -> bool
         ensures over { result ≡ self.now.over }
-        ensures count { (keys : List (ViewKey × Bool)) (header : Bool) → self.now ≡ dirty_of self.now.bound keys header
+        ensures count { (keys : List (ViewKey × Touch)) (header : Bool) → self.now ≡ dirty_of self.now.bound keys header
             → result ≡ nat_lt self.now.bound (length keys) }
     {
         self.over
@@ -90,7 +91,7 @@ impl DirtySet {
     /// Whether a key was joined, or a step that touched the header.
     pub fn is_dirty(&self) -> bool
         ensures known { result ≡ (self.now.over || self.now.header || not (is_empty self.now.keys)) }
-        ensures joined { (keys : List (ViewKey × Bool)) (header : Bool) → self.now ≡ dirty_of self.now.bound keys header
+        ensures joined { (keys : List (ViewKey × Touch)) (header : Bool) → self.now ≡ dirty_of self.now.bound keys header
             → result ≡ (not (is_empty keys) || header) }
     {
         self.over || self.header || self.keys.len() > 0
@@ -144,10 +145,10 @@ fn join_keys(
     keys: &mut TouchedKeys,
     touched: &TouchedKeys,
 ) -> Result<bool, Memory>
-    ensures keys { (all : List (ViewKey × Bool)) → over ≡ (dirty_of bound all false).over
+    ensures keys { (all : List (ViewKey × Touch)) → over ≡ (dirty_of bound all false).over
         → keys.old ≡ (dirty_of bound all false).keys
         → OnOk result (keys.new ≡ (dirty_of bound (joined all touched.now) false).keys) }
-    ensures over { (all : List (ViewKey × Bool)) → over ≡ (dirty_of bound all false).over
+    ensures over { (all : List (ViewKey × Touch)) → over ≡ (dirty_of bound all false).over
         → keys.old ≡ (dirty_of bound all false).keys
         → IfOk result (λ past. past ≡ (dirty_of bound (joined all touched.now) false).over) }
     ensures err { OnErr result (keys.new ≡ keys.old) }

@@ -24,7 +24,7 @@ pub use delta::{Delta, Mark, Put, Puts};
 pub use dirty::{DirtySet, ShownNow};
 pub use folding::{FoldRefused, Held, fold};
 pub use keys::Keys;
-pub use touched::{Touched, TouchedKeys};
+pub use touched::{Touch, Touched, TouchedKeys};
 pub use view_types::{
     Header, HeaderColumn, Shown, ShownCells, ShownRow, ShownRows, ShownType, ViewKey,
 };

@@ -8,6 +8,7 @@ ghost use Rattle.delta_core.specs.Rows.{has_row};
 use crate::delta::{Put, Puts};
 use crate::dirty::ShownNow;
 use crate::keys::Keys;
+use crate::touched::Touch;
 use cell_core::{Copies, Listed, Memory};
 use std::alloc::{AllocError, Global};
 use std::collections::BTreeMap;
@@ -16,7 +17,7 @@ use view_types::{ShownRow, ViewKey};
 /// The keys that were shown and aren't now, ascending.
 pub(crate) fn removed_of<V: ShownNow>(
     alloc: Global,
-    keys: &BTreeMap<ViewKey, bool>,
+    keys: &BTreeMap<ViewKey, Touch>,
     view: &V,
 ) -> Result<Keys, Memory>
     ensures { IfOk result (λ removed. removed ≡ removed_keys keys.now.entries (V.shown view.now).rows) }
@@ -29,14 +30,14 @@ pub(crate) fn removed_of<V: ShownNow>(
 
 fn gone<V: ShownNow>(
     alloc: Global,
-    keys: &BTreeMap<ViewKey, bool>,
+    keys: &BTreeMap<ViewKey, Touch>,
     view: &V,
 ) -> Result<Vec<ViewKey>, Memory>
     ensures { IfOk result (λ removed. removed.items ≡ removed_keys keys.now.entries (V.shown view.now).rows) }
 {
     let mut removed = Vec::new(alloc);
-    for (key, was_shown) in keys {
-        if *was_shown && !is_shown(view, key) {
+    for (key, touch) in keys {
+        if touch.was_shown && !is_shown(view, key) {
             removed.push(key.copy(alloc)?)?;
         }
     }
@@ -52,7 +53,7 @@ fn is_shown<V: ShownNow>(view: &V, key: &ViewKey) -> bool
 /// The rows that are shown under one of these keys, each with its position, by position.
 pub(crate) fn puts_of<V: ShownNow>(
     alloc: Global,
-    keys: &BTreeMap<ViewKey, bool>,
+    keys: &BTreeMap<ViewKey, Touch>,
     view: &V,
 ) -> Result<Puts, Memory>
     ensures { IfOk result (λ puts. puts ≡ puts_from (map (λ e. e.0) keys.now.entries) 0 (V.shown view.now).rows) }
@@ -65,7 +66,7 @@ pub(crate) fn puts_of<V: ShownNow>(
 /// The rows that are shown under one of these keys, each under its position.
 fn rows_by_place<V: ShownNow>(
     alloc: Global,
-    keys: &BTreeMap<ViewKey, bool>,
+    keys: &BTreeMap<ViewKey, Touch>,
     view: &V,
 ) -> Result<BTreeMap<u64, ShownRow>, Memory>
     ensures rows { IfOk result (λ by_place. by_place.entries

@@ -2,7 +2,9 @@ ghost use Rattle.std.specs.Prelude.{◌≡◌, false, position, option_copied, I
 ghost use Rattle.view_types.specs.Keys.{same_key};
 ghost use Rattle.delta_core.specs.Rows.{has_row, row_at};
 
-use crate::{Delta, DirtySet, Held, Keys, Mark, Put, Puts, ShownNow, Touched, TouchedKeys, fold};
+use crate::{
+    Delta, DirtySet, Held, Keys, Mark, Put, Puts, ShownNow, Touch, Touched, TouchedKeys, fold,
+};
 use cell_core::{Cell, Copies, Listed, Memory, Text, Value};
 use std::alloc::Global;
 use std::process::Abort;
@@ -105,7 +107,10 @@ fn is_shown(shown: &Shown, other: &Shown) -> bool {
 fn touched(alloc: Global, keys: &[(i64, bool)], header: bool) -> Result<Touched, Memory> {
     let mut touched = TouchedKeys::new(alloc);
     for (key, was_shown) in keys {
-        touched.add(ViewKey::Row(Cell::Int(*key)), *was_shown)?;
+        let touch = Touch {
+            was_shown: *was_shown,
+        };
+        touched.add(ViewKey::Row(Cell::Int(*key)), touch)?;
     }
     Ok(Touched {
         keys: touched,

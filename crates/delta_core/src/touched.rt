@@ -7,21 +7,28 @@ use std::collections::BTreeMap;
 use std::marker::Model;
 use view_types::ViewKey;
 
-/// Keys, each beside whether it was shown.
-type Entries = BTreeMap<ViewKey, bool>;
+type Entries = BTreeMap<ViewKey, Touch>;
 
-/// The keys that a step touched, each beside whether it was shown before the step. They ascend by the order
-/// of keys, and none stands twice.
+/// What is known of a key that a step touched.
+#[derive(Clone, Copy, Debug, Drop, PartialEq, Eq)]
+pub struct Touch {
+    /// Whether the key was shown before the step.
+    pub was_shown: bool,
+}
+
+/// The keys that a step touched, each beside what is known of it. They ascend by the order of keys, and none
+/// stands twice.
 #[derive(Debug, Drop)]
 pub struct TouchedKeys {
     entries: Entries,
 }
 
 impl Model for TouchedKeys {
-    ghost use Rattle.std.specs.Prelude.{List, Bool};
+    ghost use Rattle.std.specs.Prelude.{List};
     ghost use Rattle.view_types.specs.declared.key.ViewKey.{ViewKey};
+    ghost use Rattle.delta_core.specs.declared.touched.Touch.{Touch};
 
-    ghost Value = { List (ViewKey × Bool) };
+    ghost Value = { List (ViewKey × Touch) };
 
     ghost view = { λ t. t.entries.entries };
 }
@@ -35,17 +42,17 @@ impl TouchedKeys {
         }
     }
 
-    /// Adds a key, and whether it was shown before the step. A key that is there stays as it is. Want of
-    /// memory is the only refusal, and then nothing changed.
-    pub fn add(&mut self, key: ViewKey, was_shown: bool) -> Result<(), Memory>
-        ensures ok { OnOk result (self.new ≡ with_touched self.old (key, was_shown)) }
+    /// Adds a key, and what is known of it. A key that is there stays as it is. Want of memory is the only
+    /// refusal, and then nothing changed.
+    pub fn add(&mut self, key: ViewKey, touch: Touch) -> Result<(), Memory>
+        ensures ok { OnOk result (self.new ≡ with_touched self.old (key, touch)) }
         ensures err { OnErr result (self.new ≡ self.old) }
     {
-        touch(&mut self.entries, key, was_shown)
+        insert_new(&mut self.entries, key, touch)
     }
 
     /// The keys, ascending.
-    pub fn entries(&self) -> &BTreeMap<ViewKey, bool>
+    pub fn entries(&self) -> &BTreeMap<ViewKey, Touch>
         ensures { result.now.entries ≡ self.now }
     {
         &self.entries
@@ -87,15 +94,15 @@ pub struct Touched {
     pub header: bool,
 }
 
-/// Puts a key in its place, with whether it was shown. A key that is there stays as it is.
-fn touch(keys: &mut Entries, key: ViewKey, was_shown: bool) -> Result<(), Memory>
-    ensures ok { OnOk result (keys.new.entries ≡ with_touched keys.old.entries (key, was_shown)) }
+/// Puts a key in its place, with what is known of it. A key that is there stays as it is.
+fn insert_new(keys: &mut Entries, key: ViewKey, touch: Touch) -> Result<(), Memory>
+    ensures ok { OnOk result (keys.new.entries ≡ with_touched keys.old.entries (key, touch)) }
     ensures err { OnErr result (keys.new.entries ≡ keys.old.entries) }
 {
     // The keys ascend, as `len` says: so one that is there isn't looked for in vain.
     let _ascending = keys.len();
     if !keys.contains_key(&key) {
-        drop(keys.insert(key, was_shown)?);
+        drop(keys.insert(key, touch)?);
     }
     Ok(())
 }
@@ -111,8 +118,8 @@ fn add_all<'m>(
     ensures added { without (map (λ k. k.now) added.new.items) keys.new.entries
         ≡ without (map (λ k. k.now) added.old.items) keys.old.entries }
 {
-    for (key, was_shown) in more {
-        add_one(alloc, keys, added, key, *was_shown)?;
+    for (key, touch) in more {
+        add_one(alloc, keys, added, key, *touch)?;
     }
     Ok(())
 }
@@ -123,9 +130,9 @@ fn add_one<'m>(
     keys: &mut Entries,
     added: &mut Vec<&'m ViewKey>,
     key: &'m ViewKey,
-    was_shown: bool,
+    touch: Touch,
 ) -> Result<(), Memory>
-    ensures ok { OnOk result (keys.new.entries ≡ with_touched keys.old.entries (key.now, was_shown)) }
+    ensures ok { OnOk result (keys.new.entries ≡ with_touched keys.old.entries (key.now, touch)) }
     ensures added { without (map (λ k. k.now) added.new.items) keys.new.entries
         ≡ without (map (λ k. k.now) added.old.items) keys.old.entries }
 {
@@ -135,7 +142,7 @@ fn add_one<'m>(
         return Ok(());
     }
     added.push(key)?;
-    drop(keys.insert(key.copy(alloc)?, was_shown)?);
+    drop(keys.insert(key.copy(alloc)?, touch)?);
     Ok(())
 }
 

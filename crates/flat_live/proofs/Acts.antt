@@ -9,16 +9,16 @@ use Rattle.view_types.specs.Keys.{same_key}
 use Rattle.view_types.specs.declared.key.ViewKey.{ViewKey}
 use Rattle.view_types.specs.declared.key.ViewKey.TheVariants.{Row}
 use Rattle.view_types.specs.declared.shown.HeaderColumn.{HeaderColumn}
-use Rattle.view_types.proofs.KeyOrder.{same_key_is_equal}
+use Rattle.view_types.proofs.KeyOrder.{same_key_is_equal, same_key-symm}
 use Rattle.delta_core.specs.KeySets.{is_among}
 use Rattle.delta_core.specs.Rows.{at_key}
-use Rattle.delta_core.proofs.KeyLemmas.{same_key-symm}
+use Rattle.delta_core.specs.declared.touched.Touch.{Touch}
 use Rattle.view_spec.proofs.LocalLaws.{same_found-itself}
 use Rattle.live_list.specs.Live.{live_key}
 use Rattle.flat_live.specs.Rows.{FlatRow, IsSettled, as_placed, changed_keys, live_of, settled, told}
 
 pub told-itself : (header : List HeaderColumn) (o : Option FlatRow) → told header header o o ≡ None
-told-itself header o = ap (λ b. cond b None (Some (is_some o))) (same_found-itself (option_map (as_placed header) o))
+told-itself header o = ap (λ b. cond b None (Some (record { was_shown = is_some o }))) (same_found-itself (option_map (as_placed header) o))
 
 or_false : (a b : Bool) → (a || b) ≡ false → (a ≡ false) × (b ≡ false)
 or_false true b h = absurd (let wrong : true ≡ false = h in cc)
@@ -62,7 +62,7 @@ settled_none plan header first = record {
   touched = λ k. sym (told-itself header (at_key live_key k first));
 }
 
-pub skipped : (plan : Plan) (header : List HeaderColumn) (first : List FlatRow) (c : RowChange) (cs : List RowChange) (seen : List (ViewKey × Bool)) (rows : List FlatRow) (noted : List (ViewKey × Bool))
+pub skipped : (plan : Plan) (header : List HeaderColumn) (first : List FlatRow) (c : RowChange) (cs : List RowChange) (seen : List (ViewKey × Bool)) (rows : List FlatRow) (noted : List (ViewKey × Touch))
     → IsSettled plan header first cs seen rows noted → is_some (lookup (same_key (Row c.key)) seen) ≡ true → IsSettled plan header first (c ∷ cs) seen rows noted
 skipped plan header first c cs seen rows noted h found =
     let there : is_among (changed_keys cs) (Row c.key) ≡ true = sym (h.seen (Row c.key)) ∙ found in
@@ -76,13 +76,13 @@ skipped plan header first c cs seen rows noted h found =
     by k there true is = ap (is_among (changed_keys cs)) (same_key_is_equal k (Row c.key) is) ∙ there
     by k there false is = refl
 
-pub unknown : (plan : Plan) (header : List HeaderColumn) (first : List FlatRow) (c : RowChange) (cs : List RowChange) (seen : List (ViewKey × Bool)) (rows : List FlatRow) (noted : List (ViewKey × Bool))
+pub unknown : (plan : Plan) (header : List HeaderColumn) (first : List FlatRow) (c : RowChange) (cs : List RowChange) (seen : List (ViewKey × Bool)) (rows : List FlatRow) (noted : List (ViewKey × Touch))
     → IsSettled plan header first cs seen rows noted → is_some (lookup (same_key (Row c.key)) seen) ≡ false → lookup (same_key (Row c.key)) noted ≡ None
 unknown plan header first c cs seen rows noted h found =
     let none : is_among (changed_keys cs) (Row c.key) ≡ false = sym (h.seen (Row c.key)) ∙ found in
     h.touched (Row c.key) ∙ ap (told header header (at_key live_key (Row c.key) first)) (settled-other plan first cs (Row c.key) none) ∙ told-itself header (at_key live_key (Row c.key) first)
 
-pub acted : (plan : Plan) (header : List HeaderColumn) (first : List FlatRow) (c : RowChange) (cs : List RowChange) (seen more : List (ViewKey × Bool)) (rows now : List FlatRow) (noted noted_now : List (ViewKey × Bool))
+pub acted : (plan : Plan) (header : List HeaderColumn) (first : List FlatRow) (c : RowChange) (cs : List RowChange) (seen more : List (ViewKey × Bool)) (rows now : List FlatRow) (noted noted_now : List (ViewKey × Touch))
     → IsSettled plan header first cs seen rows noted → is_some (lookup (same_key (Row c.key)) seen) ≡ false
     → ((k : ViewKey) → lookup (same_key k) more ≡ cond (same_key (Row c.key) k) (Some true) (lookup (same_key k) seen))
     → ((k : ViewKey) → at_key live_key k now ≡ cond (same_key (Row c.key) k) (live_of plan c) (at_key live_key k rows))
@@ -107,7 +107,7 @@ acted plan header first c cs seen more rows now noted noted_now h found put each
         (h.rows k ∙ settled-other plan first cs k (ap (is_among (changed_keys cs)) (sym (same_key_is_equal (Row c.key) k is)) ∙ none))
     by k none false is = h.touched k
 
-pub acted_ok : {A E : Type 0} (r : Result A E) (plan : Plan) (header : List HeaderColumn) (first : List FlatRow) (c : RowChange) (cs : List RowChange) (seen more : List (ViewKey × Bool)) (rows now : List FlatRow) (noted noted_now : List (ViewKey × Bool))
+pub acted_ok : {A E : Type 0} (r : Result A E) (plan : Plan) (header : List HeaderColumn) (first : List FlatRow) (c : RowChange) (cs : List RowChange) (seen more : List (ViewKey × Bool)) (rows now : List FlatRow) (noted noted_now : List (ViewKey × Touch))
     → IsSettled plan header first cs seen rows noted → is_some (lookup (same_key (Row c.key)) seen) ≡ false
     → ((k : ViewKey) → lookup (same_key k) more ≡ cond (same_key (Row c.key) k) (Some true) (lookup (same_key k) seen))
     → ((k : ViewKey) → OnOk r (at_key live_key k now ≡ cond (same_key (Row c.key) k) (live_of plan c) (at_key live_key k rows)))

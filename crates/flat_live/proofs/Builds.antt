@@ -8,12 +8,12 @@ use Rattle.row_batch.specs.Changes.{row_at}
 use Rattle.row_batch.specs.Tables.{keys_of_rows}
 use Rattle.row_batch.specs.declared.batch.Pair.{Pair}
 use Rattle.plan_types.specs.declared.plan.Plan.{Plan}
+use Rattle.view_types.proofs.KeyOrder.{same_key-symm}
 use Rattle.view_types.specs.Keys.{same_key}
 use Rattle.view_types.specs.declared.key.ViewKey.{ViewKey}
 use Rattle.view_types.specs.declared.key.ViewKey.TheVariants.{Row, Group}
 use Rattle.view_types.specs.declared.shown.HeaderColumn.{HeaderColumn}
 use Rattle.delta_core.specs.Rows.{at_key}
-use Rattle.delta_core.proofs.KeyLemmas.{same_key-symm}
 use Rattle.view_spec.specs.Cells.{head_at}
 use Rattle.view_spec.specs.Columns.{is_flat}
 use Rattle.view_spec.specs.Entries.{entry, row_entry}

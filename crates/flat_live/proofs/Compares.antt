@@ -10,6 +10,7 @@ use Rattle.view_types.specs.declared.shown.HeaderColumn.{HeaderColumn}
 use Rattle.view_types.proofs.KeyOrder.{same_key_is_equal}
 use Rattle.delta_core.specs.DirtySets.{with_touched}
 use Rattle.delta_core.specs.Rows.{at_key}
+use Rattle.delta_core.specs.declared.touched.Touch.{Touch}
 use Rattle.view_spec.specs.Touching.{same_found}
 use Rattle.live_list.specs.Live.{live_key}
 use Rattle.key_map.specs.Keyed.{same_by}
@@ -29,7 +30,7 @@ none_behind xs at x s is = ap (λ n. at_key live_key (live_key x) (drop n xs)) (
     from (y ∷ xs) (suc at) x s is = from xs at x s.1 is
 
 -- told of the keys met so far, and now of one key more
-told_more : (first last : List HeaderColumn) (was now : List FlatRow) (x : FlatRow) (k : ViewKey) (a o e : Option Bool) (m : Option FlatRow) → a ≡ told first last (at_key live_key (live_key x) was) (at_key live_key (live_key x) now)
+told_more : (first last : List HeaderColumn) (was now : List FlatRow) (x : FlatRow) (k : ViewKey) (a o e : Option Touch) (m : Option FlatRow) → a ≡ told first last (at_key live_key (live_key x) was) (at_key live_key (live_key x) now)
     → o ≡ cond (is_some m) (told first last (at_key live_key k was) (at_key live_key k now)) e
     → cond (same_key (live_key x) k) a o ≡ cond (is_some (cond (same_key (live_key x) k) (Some x) m)) (told first last (at_key live_key k was) (at_key live_key k now)) e
 told_more first last was now x k a o e m mine other = by (same_key (live_key x) k) refl
@@ -38,7 +39,7 @@ told_more first last was now x k a o e m mine other = by (same_key (live_key x) 
     by true is = mine ∙ ap (λ z. told first last (at_key live_key z was) (at_key live_key z now)) (same_key_is_equal (live_key x) k is)
     by false is = other
 
-pub old_stays : (first last : List HeaderColumn) (was now : List FlatRow) (x : FlatRow) (at : ℕ) (noted : List (ViewKey × Bool)) → IsDistinct (same_by live_key) was → slice_get was at ≡ Some x
+pub old_stays : (first last : List HeaderColumn) (was now : List FlatRow) (x : FlatRow) (at : ℕ) (noted : List (ViewKey × Touch)) → IsDistinct (same_by live_key) was → slice_get was at ≡ Some x
     → TellsOld first last was now (drop (at + 1) was) noted → same_found (Some (as_placed first x)) (option_map (as_placed last) (at_key live_key (live_key x) now)) ≡ true
     → TellsOld first last was now (drop at was) noted
 old_stays first last was now x at noted s is h same =
@@ -46,7 +47,7 @@ old_stays first last was now x at noted s is h same =
     let unknown : lookup (same_key (live_key x)) noted ≡ None
     = h.each (live_key x) ∙ ap (λ m. cond (is_some m) (told first last (at_key live_key (live_key x) was) (at_key live_key (live_key x) now)) None) (none_behind was at x s is) in
     let mine : None ≡ told first last (at_key live_key (live_key x) was) (at_key live_key (live_key x) now)
-    = sym (ap (λ o. told first last o (at_key live_key (live_key x) now)) there ∙ ap (λ b. cond b None (Some true)) same) in
+    = sym (ap (λ o. told first last o (at_key live_key (live_key x) now)) there ∙ ap (λ b. cond b None (Some (record { was_shown = true }))) same) in
     record {
       each = λ k.
           none_there (λ q. lookup (same_key q) noted) (live_key x) k unknown
@@ -54,32 +55,33 @@ old_stays first last was now x at noted s is h same =
           ∙ ap (λ (ys : List FlatRow). cond (is_some (at_key live_key k ys)) (told first last (at_key live_key k was) (at_key live_key k now)) None) (sym (next_item was at x is));
     }
 
-pub old_differs : (first last : List HeaderColumn) (was now : List FlatRow) (x : FlatRow) (at : ℕ) (noted : List (ViewKey × Bool)) → IsDistinct (same_by live_key) was → slice_get was at ≡ Some x
+pub old_differs : (first last : List HeaderColumn) (was now : List FlatRow) (x : FlatRow) (at : ℕ) (noted : List (ViewKey × Touch)) → IsDistinct (same_by live_key) was → slice_get was at ≡ Some x
     → TellsOld first last was now (drop (at + 1) was) noted → same_found (Some (as_placed first x)) (option_map (as_placed last) (at_key live_key (live_key x) now)) ≡ false
-    → TellsOld first last was now (drop at was) (with_touched noted (live_key x, true))
+    → TellsOld first last was now (drop at was) (with_touched noted (live_key x, record { was_shown = true }))
 old_differs first last was now x at noted s is h same =
     let there : at_key live_key (live_key x) was ≡ Some x = at_key-there live_key was at x s is in
     let unknown : lookup (same_key (live_key x)) noted ≡ None
     = h.each (live_key x) ∙ ap (λ m. cond (is_some m) (told first last (at_key live_key (live_key x) was) (at_key live_key (live_key x) now)) None) (none_behind was at x s is) in
-    let mine : Some true ≡ told first last (at_key live_key (live_key x) was) (at_key live_key (live_key x) now)
-    = sym (ap (λ o. told first last o (at_key live_key (live_key x) now)) there ∙ ap (λ b. cond b None (Some true)) same) in
+    let touch : Touch = record { was_shown = true } in
+    let mine : Some touch ≡ told first last (at_key live_key (live_key x) was) (at_key live_key (live_key x) now)
+    = sym (ap (λ o. told first last o (at_key live_key (live_key x) now)) there ∙ ap (λ b. cond b None (Some touch)) same) in
     record {
       each = λ k.
-          lookup-with_touched noted (live_key x) true k unknown
-          ∙ told_more first last was now x k (Some true) (lookup (same_key k) noted) None (at_key live_key k (drop (at + 1) was)) mine (h.each k)
+          lookup-with_touched noted (live_key x) touch k unknown
+          ∙ told_more first last was now x k (Some touch) (lookup (same_key k) noted) None (at_key live_key k (drop (at + 1) was)) mine (h.each k)
           ∙ ap (λ (ys : List FlatRow). cond (is_some (at_key live_key k ys)) (told first last (at_key live_key k was) (at_key live_key k now)) None) (sym (next_item was at x is));
     }
 
 -- ---- the new rows
 
-as_is : (x : FlatRow) (f : ViewKey → Option Bool) (k : ViewKey) → f k ≡ cond (same_key (live_key x) k) (f (live_key x)) (f k)
+as_is : (x : FlatRow) (f : ViewKey → Option Touch) (k : ViewKey) → f k ≡ cond (same_key (live_key x) k) (f (live_key x)) (f k)
 as_is x f k = by (same_key (live_key x) k) refl
   where
     by : (b : Bool) → same_key (live_key x) k ≡ b → f k ≡ cond b (f (live_key x)) (f k)
     by true is = ap f (sym (same_key_is_equal (live_key x) k is))
     by false is = refl
 
-at_first : (first last : List HeaderColumn) (was now : List FlatRow) (x : FlatRow) (at : ℕ) (noted : List (ViewKey × Bool)) → IsDistinct (same_by live_key) now → slice_get now at ≡ Some x
+at_first : (first last : List HeaderColumn) (was now : List FlatRow) (x : FlatRow) (at : ℕ) (noted : List (ViewKey × Touch)) → IsDistinct (same_by live_key) now → slice_get now at ≡ Some x
     → TellsNew first last was now (drop (at + 1) now) noted
     → lookup (same_key (live_key x)) noted ≡ cond (is_some (at_key live_key (live_key x) was)) (told first last (at_key live_key (live_key x) was) (at_key live_key (live_key x) now)) None
 at_first first last was now x at noted s is h =
@@ -87,7 +89,7 @@ at_first first last was now x at noted s is h =
     ∙ ap (λ m. cond (is_some m) (told first last (at_key live_key (live_key x) was) (at_key live_key (live_key x) now)) (cond (is_some (at_key live_key (live_key x) was)) (told first last (at_key live_key (live_key x) was) (at_key live_key (live_key x) now)) None))
     (none_behind now at x s is)
 
-pub new_known : (first last : List HeaderColumn) (was now : List FlatRow) (x : FlatRow) (at : ℕ) (noted : List (ViewKey × Bool)) → IsDistinct (same_by live_key) now → slice_get now at ≡ Some x
+pub new_known : (first last : List HeaderColumn) (was now : List FlatRow) (x : FlatRow) (at : ℕ) (noted : List (ViewKey × Touch)) → IsDistinct (same_by live_key) now → slice_get now at ≡ Some x
     → TellsNew first last was now (drop (at + 1) now) noted → is_some (at_key live_key (live_key x) was) ≡ true → TellsNew first last was now (drop at now) noted
 new_known first last was now x at noted s is h known = record {
   each = λ k.
@@ -101,29 +103,30 @@ no_row : (o : Option FlatRow) → is_some o ≡ false → o ≡ None
 no_row None h = refl
 no_row (Some x) h = absurd (let wrong : true ≡ false = h in cc)
 
-pub new_noted : (first last : List HeaderColumn) (was now : List FlatRow) (x : FlatRow) (at : ℕ) (noted : List (ViewKey × Bool)) → IsDistinct (same_by live_key) now → slice_get now at ≡ Some x
-    → TellsNew first last was now (drop (at + 1) now) noted → is_some (at_key live_key (live_key x) was) ≡ false → TellsNew first last was now (drop at now) (with_touched noted (live_key x, false))
+pub new_noted : (first last : List HeaderColumn) (was now : List FlatRow) (x : FlatRow) (at : ℕ) (noted : List (ViewKey × Touch)) → IsDistinct (same_by live_key) now → slice_get now at ≡ Some x
+    → TellsNew first last was now (drop (at + 1) now) noted → is_some (at_key live_key (live_key x) was) ≡ false → TellsNew first last was now (drop at now) (with_touched noted (live_key x, record { was_shown = false }))
 new_noted first last was now x at noted s is h other =
     let none : at_key live_key (live_key x) was ≡ None = no_row (at_key live_key (live_key x) was) other in
     let there : at_key live_key (live_key x) now ≡ Some x = at_key-there live_key now at x s is in
-    let mine : Some false ≡ told first last (at_key live_key (live_key x) was) (at_key live_key (live_key x) now)
+    let touch : Touch = record { was_shown = false } in
+    let mine : Some touch ≡ told first last (at_key live_key (live_key x) was) (at_key live_key (live_key x) now)
     = sym (ap (λ o. told first last o (at_key live_key (live_key x) now)) none ∙ ap (told first last None) there) in
     record {
       each = λ k.
-          lookup-with_touched noted (live_key x) false k (at_first first last was now x at noted s is h ∙ ap (λ b. cond b (told first last (at_key live_key (live_key x) was) (at_key live_key (live_key x) now)) None) other)
-          ∙ told_more first last was now x k (Some false) (lookup (same_key k) noted) (cond (is_some (at_key live_key k was)) (told first last (at_key live_key k was) (at_key live_key k now)) None) (at_key live_key k (drop (at + 1) now)) mine (h.each k)
+          lookup-with_touched noted (live_key x) touch k (at_first first last was now x at noted s is h ∙ ap (λ b. cond b (told first last (at_key live_key (live_key x) was) (at_key live_key (live_key x) now)) None) other)
+          ∙ told_more first last was now x k (Some touch) (lookup (same_key k) noted) (cond (is_some (at_key live_key k was)) (told first last (at_key live_key k was) (at_key live_key k now)) None) (at_key live_key k (drop (at + 1) now)) mine (h.each k)
           ∙ ap (λ (ys : List FlatRow). cond (is_some (at_key live_key k ys)) (told first last (at_key live_key k was) (at_key live_key k now)) (cond (is_some (at_key live_key k was)) (told first last (at_key live_key k was) (at_key live_key k now)) None)) (sym (next_item now at x is));
     }
 
 -- ---- none met, all met
 
-pub old_none : (first last : List HeaderColumn) (was now : List FlatRow) (noted : List (ViewKey × Bool)) → noted ≡ [] → TellsOld first last was now (drop (length was - 0) was) noted
+pub old_none : (first last : List HeaderColumn) (was now : List FlatRow) (noted : List (ViewKey × Touch)) → noted ≡ [] → TellsOld first last was now (drop (length was - 0) was) noted
 old_none first last was now noted none = rw (all_dropped was, none) (record { each = λ k. refl })
 
-pub new_none : (first last : List HeaderColumn) (was now : List FlatRow) (noted : List (ViewKey × Bool)) → TellsOld first last was now was noted → TellsNew first last was now (drop (length now - 0) now) noted
+pub new_none : (first last : List HeaderColumn) (was now : List FlatRow) (noted : List (ViewKey × Touch)) → TellsOld first last was now was noted → TellsNew first last was now (drop (length now - 0) now) noted
 new_none first last was now noted h = rw (all_dropped now) (record { each = λ k. h.each k })
 
-pub all_met : (first last : List HeaderColumn) (was now : List FlatRow) (noted : List (ViewKey × Bool)) → TellsNew first last was now now noted
+pub all_met : (first last : List HeaderColumn) (was now : List FlatRow) (noted : List (ViewKey × Touch)) → TellsNew first last was now now noted
     → (k : ViewKey) → lookup (same_key k) noted ≡ told first last (at_key live_key k was) (at_key live_key k now)
 all_met first last was now noted h k = h.each k ∙ by (at_key live_key k was) (at_key live_key k now)
   where

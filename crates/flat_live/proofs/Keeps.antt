@@ -24,12 +24,6 @@ use Rattle.key_map.specs.Keyed.{same_by}
 use Rattle.key_map.proofs.Keyed.{at_key-there}
 use Rattle.flat_live.specs.Rows.{live_at, live_row}
 
-pub live_kept : (plan : Plan) (key : Cell) (row full : List Cell) → full ≡ full_row plan row → keeps plan.filters full ≡ true
-    → live_at plan (Some (pair_of key row)) ≡ Some (live_row plan (pair_of key full))
-live_kept plan key row full is kept =
-    ap (λ b. option_map (live_row plan) (where_it b (pair_of key (full_row plan row)))) (ap (keeps plan.filters) (sym is) ∙ kept)
-    ∙ ap (λ r. Some (live_row plan (pair_of key r))) (sym is)
-
 pub live_dropped : (plan : Plan) (key : Cell) (row full : List Cell) → full ≡ full_row plan row → keeps plan.filters full ≡ false
     → live_at plan (Some (pair_of key row)) ≡ None
 live_dropped plan key row full is kept =

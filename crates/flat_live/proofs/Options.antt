@@ -6,9 +6,9 @@ use Rattle.std.specs.Option.{option_copied}
 use Rattle.std.specs.Ordering.{is_eq, match_ordering}
 use Rattle.view_types.specs.Keys.{key_order, same_key}
 use Rattle.view_types.specs.declared.key.ViewKey.{ViewKey}
-use Rattle.view_types.proofs.KeyOrder.{same_key_is_equal, same_key_itself}
+use Rattle.view_types.proofs.KeyOrder.{same_key_is_equal, same_key_itself, same_key-symm}
 use Rattle.delta_core.specs.DirtySets.{with_touched}
-use Rattle.delta_core.proofs.KeyLemmas.{same_key-symm}
+use Rattle.delta_core.specs.declared.touched.Touch.{Touch}
 
 pub ok_map : {A E : Type 0} {P Q : Type 0} (r : Result A E) → (P → Q) → OnOk r P → OnOk r Q
 ok_map (Ok x) f p = f p
@@ -41,37 +41,30 @@ at_same {X} f k q o = by (same_key k q) refl
 pub itself : {X : Type 0} (k : ViewKey) (a o : Option X) → cond (same_key k k) a o ≡ a
 itself k a o = ap (λ b. cond b a o) (same_key_itself k)
 
-twice : {X : Type 0} (b : Bool) (a o : Option X) → cond b a (cond b None o) ≡ cond b a o
-twice true a o = refl
-twice false a o = refl
-
-pub replaced : {X : Type 0} (k q : ViewKey) (a o : Option X) → cond (same_key k q) a (cond (same_key k q) None o) ≡ cond (same_key k q) a o
-replaced k q a o = twice (same_key k q) a o
-
 -- ---- one key more is touched
 
-first_put : (k q : ViewKey) (b : Bool) (o : Option Bool) → cond (same_key q k) (Some b) o ≡ cond (same_key k q) (Some b) o
-first_put k q b o = ap (λ c. cond c (Some b) o) (same_key-symm q k)
+first_put : (k q : ViewKey) (t : Touch) (o : Option Touch) → cond (same_key q k) (Some t) o ≡ cond (same_key k q) (Some t) o
+first_put k q t o = ap (λ c. cond c (Some t) o) (same_key-symm q k)
 
-swapped : (k q : ViewKey) (b : Bool) (e : ViewKey × Bool) (o : Option Bool) → same_key k e.0 ≡ false → (c d : Bool) → same_key q e.0 ≡ c → same_key k q ≡ d
-    → cond c (Some e.1) (cond d (Some b) o) ≡ cond d (Some b) (cond c (Some e.1) o)
-swapped k q b e o apart true true is there =
+swapped : (k q : ViewKey) (t : Touch) (e : ViewKey × Touch) (o : Option Touch) → same_key k e.0 ≡ false → (c d : Bool) → same_key q e.0 ≡ c → same_key k q ≡ d
+    → cond c (Some e.1) (cond d (Some t) o) ≡ cond d (Some t) (cond c (Some e.1) o)
+swapped k q t e o apart true true is there =
     let same : k ≡ q = same_key_is_equal k q there in
     let wrong : true ≡ false = sym (ap (λ z. same_key z e.0) same ∙ is) ∙ apart in absurd (cc)
-swapped k q b e o apart true false is there = refl
-swapped k q b e o apart false true is there = refl
-swapped k q b e o apart false false is there = refl
+swapped k q t e o apart true false is there = refl
+swapped k q t e o apart false true is there = refl
+swapped k q t e o apart false false is there = refl
 
-step : (e : ViewKey × Bool) (es : List (ViewKey × Bool)) (k : ViewKey) (b : Bool) (q : ViewKey) (o : Ordering) → key_order k e.0 ≡ o → cond (is_eq o) (Some e.1) (lookup (same_key k) es) ≡ None
-    → (lookup (same_key k) es ≡ None → lookup (same_key q) (with_touched es (k, b)) ≡ cond (same_key k q) (Some b) (lookup (same_key q) es))
-    → lookup (same_key q) (match_ordering o ((k, b) ∷ e ∷ es) (e ∷ es) (e ∷ with_touched es (k, b))) ≡ cond (same_key k q) (Some b) (cond (same_key q e.0) (Some e.1) (lookup (same_key q) es))
-step e es k b q Less is none later = first_put k q b (cond (same_key q e.0) (Some e.1) (lookup (same_key q) es))
-step e es k b q Equal is none later = absurd (let wrong : Some e.1 ≡ None = none in cc)
-step e es k b q Greater is none later =
+step : (e : ViewKey × Touch) (es : List (ViewKey × Touch)) (k : ViewKey) (t : Touch) (q : ViewKey) (o : Ordering) → key_order k e.0 ≡ o → cond (is_eq o) (Some e.1) (lookup (same_key k) es) ≡ None
+    → (lookup (same_key k) es ≡ None → lookup (same_key q) (with_touched es (k, t)) ≡ cond (same_key k q) (Some t) (lookup (same_key q) es))
+    → lookup (same_key q) (match_ordering o ((k, t) ∷ e ∷ es) (e ∷ es) (e ∷ with_touched es (k, t))) ≡ cond (same_key k q) (Some t) (cond (same_key q e.0) (Some e.1) (lookup (same_key q) es))
+step e es k t q Less is none later = first_put k q t (cond (same_key q e.0) (Some e.1) (lookup (same_key q) es))
+step e es k t q Equal is none later = absurd (let wrong : Some e.1 ≡ None = none in cc)
+step e es k t q Greater is none later =
     ap (λ o. cond (same_key q e.0) (Some e.1) o) (later none)
-    ∙ swapped k q b e (lookup (same_key q) es) (ap is_eq is) (same_key q e.0) (same_key k q) refl refl
+    ∙ swapped k q t e (lookup (same_key q) es) (ap is_eq is) (same_key q e.0) (same_key k q) refl refl
 
-pub lookup-with_touched : (es : List (ViewKey × Bool)) (k : ViewKey) (b : Bool) (q : ViewKey) → lookup (same_key k) es ≡ None
-    → lookup (same_key q) (with_touched es (k, b)) ≡ cond (same_key k q) (Some b) (lookup (same_key q) es)
-lookup-with_touched [] k b q none = first_put k q b None
-lookup-with_touched (e ∷ es) k b q none = step e es k b q (key_order k e.0) refl none (lookup-with_touched es k b q)
+pub lookup-with_touched : (es : List (ViewKey × Touch)) (k : ViewKey) (t : Touch) (q : ViewKey) → lookup (same_key k) es ≡ None
+    → lookup (same_key q) (with_touched es (k, t)) ≡ cond (same_key k q) (Some t) (lookup (same_key q) es)
+lookup-with_touched [] k t q none = first_put k q t None
+lookup-with_touched (e ∷ es) k t q none = step e es k t q (key_order k e.0) refl none (lookup-with_touched es k t q)

@@ -20,7 +20,6 @@ use Rattle.view_types.specs.declared.shown.HeaderColumn.{HeaderColumn}
 use Rattle.view_types.proofs.KeyOrder as keys
 use Rattle.delta_core.specs.KeySets.{is_among}
 use Rattle.delta_core.specs.Rows.{at_key}
-use Rattle.delta_core.proofs.KeyLemmas.{same_key-symm}
 use Rattle.view_spec.specs.Cells.{head_at, with_columns, with_value}
 use Rattle.view_spec.specs.Entries.{kept_at}
 use Rattle.view_spec.specs.Filters.{cell_in}
@@ -74,7 +73,7 @@ row_after-free (c ∷ cs) key o n among = by (same_cell c.key key) refl (λ more
   where
     by : (b : Bool) → same_cell c.key key ≡ b → (is_among (changed_keys cs) (Row key) ≡ true → row_after cs key o ≡ row_after cs key n) → row_after cs key (cond b c.new o) ≡ row_after cs key (cond b c.new n)
     by true is more = refl
-    by false is more = more (sym (ap (λ d. d || is_among (changed_keys cs) (Row key)) (same_key-symm (Row key) (Row c.key) ∙ is)) ∙ among)
+    by false is more = more (sym (ap (λ d. d || is_among (changed_keys cs) (Row key)) (keys.same_key-symm (Row key) (Row c.key) ∙ is)) ∙ among)
 
 row_after-other : (cs : List RowChange) (key : Cell) (o : Option (List Cell)) → is_among (changed_keys cs) (Row key) ≡ false → row_after cs key o ≡ o
 row_after-other [] key o none = refl
@@ -83,7 +82,7 @@ row_after-other (c ∷ cs) key o none = by (same_key (Row key) (Row c.key)) refl
     by : (b : Bool) → same_key (Row key) (Row c.key) ≡ b → (is_among (changed_keys cs) (Row key) ≡ false → row_after cs key o ≡ o) → row_after cs key (cond (same_cell c.key key) c.new o) ≡ o
     by true is more = absurd (let wrong : true ≡ false = sym (ap (λ d. d || is_among (changed_keys cs) (Row key)) is) ∙ none in cc)
     by false is more =
-        ap (λ d. row_after cs key (cond d c.new o)) (same_key-symm (Row c.key) (Row key) ∙ is)
+        ap (λ d. row_after cs key (cond d c.new o)) (keys.same_key-symm (Row c.key) (Row key) ∙ is)
         ∙ more (sym (ap (λ d. d || is_among (changed_keys cs) (Row key)) is) ∙ none)
 
 -- ---- under each key

@@ -24,6 +24,7 @@ use Rattle.view_types.specs.declared.shown.HeaderColumn.{HeaderColumn}
 use Rattle.delta_core.specs.Deltas.{marked}
 use Rattle.delta_core.specs.KeySets.{is_among}
 use Rattle.delta_core.specs.Rows.{at_key}
+use Rattle.delta_core.specs.declared.touched.Touch.{Touch}
 use Rattle.view_spec.specs.Cells.{head_at}
 use Rattle.view_spec.specs.Columns.{is_flat}
 use Rattle.view_spec.specs.Entries.{entry, row_entry}
@@ -114,7 +115,7 @@ placed_settled s header first new cs h =
 
 -- ---- what was touched
 
-pub keys_touched : (s : Side) (header : List HeaderColumn) (first new : List FlatRow) (cs : List RowChange) (noted : List (ViewKey × Bool)) → Steps s header first new cs
+pub keys_touched : (s : Side) (header : List HeaderColumn) (first new : List FlatRow) (cs : List RowChange) (noted : List (ViewKey × Touch)) → Steps s header first new cs
     → IsStrictlySortedBy key_order (keys_of noted)
     → ((q : ViewKey) → lookup (same_key q) noted ≡ told header header (at_key live_key q first) (settled s.plan first cs q))
     → noted ≡ marked (view s).rows (touched s (changed_side s cs))
@@ -122,7 +123,7 @@ keys_touched s header first new cs noted h =
     keys_told s (changed_side s cs) header header (λ q. at_key live_key q first) (λ q. settled s.plan first cs q) noted h.keys h.keys_now
     (λ q. first_entry s header first q h.keys h.shown) (entry_settled s header first new cs h)
 
-pub keys_compared : (a b : Side) (ha hb : List HeaderColumn) (was now : List FlatRow) (noted : List (ViewKey × Bool)) → HasKeys a → HasKeys b → map (as_placed ha) was ≡ placed a → map (as_placed hb) now ≡ placed b
+pub keys_compared : (a b : Side) (ha hb : List HeaderColumn) (was now : List FlatRow) (noted : List (ViewKey × Touch)) → HasKeys a → HasKeys b → map (as_placed ha) was ≡ placed a → map (as_placed hb) now ≡ placed b
     → IsStrictlySortedBy key_order (keys_of noted) → ((q : ViewKey) → lookup (same_key q) noted ≡ told ha hb (at_key live_key q was) (at_key live_key q now))
     → noted ≡ marked (view a).rows (touched a b)
 keys_compared a b ha hb was now noted ka kb sa sb =

@@ -11,7 +11,8 @@ use Rattle.view_types.proofs.KeyOrder as keys
 use Rattle.delta_core.specs.Deltas.{marked}
 use Rattle.delta_core.specs.KeySets.{is_among, with_keys}
 use Rattle.delta_core.specs.Rows.{at_key, has_row}
-use Rattle.delta_core.proofs.KeySetLemmas.{unions_ascend}
+use Rattle.delta_core.specs.declared.touched.Touch.{Touch}
+use Rattle.delta_core.proofs.KeySetLemmas.{beside, keys_of-beside, unions_ascend}
 use Rattle.view_spec.specs.Entries.{entry}
 use Rattle.view_spec.specs.Laws.{HasKeys}
 use Rattle.view_spec.specs.Touching.{is_touched, key_of, same_found, touched}
@@ -29,16 +30,16 @@ some_mapped : {X Y : Type 0} (f : X → Y) (o : Option X) → is_some (option_ma
 some_mapped f None = refl
 some_mapped f (Some x) = refl
 
-lookup-beside : (f : ViewKey → Bool) (ks : List ViewKey) (q : ViewKey) → lookup (same_key q) (map (λ k. (k, f k)) ks) ≡ cond (is_among ks q) (Some (f q)) None
+lookup-beside : (f : ViewKey → Bool) (ks : List ViewKey) (q : ViewKey) → lookup (same_key q) (beside f ks) ≡ cond (is_among ks q) (Some (record { was_shown = f q })) None
 lookup-beside f [] q = refl
 lookup-beside f (k ∷ ks) q = by (same_key q k) refl (lookup-beside f ks q)
   where
-    by : (b : Bool) → same_key q k ≡ b → lookup (same_key q) (map (λ k. (k, f k)) ks) ≡ cond (is_among ks q) (Some (f q)) None
-        → cond b (Some (f k)) (lookup (same_key q) (map (λ k. (k, f k)) ks)) ≡ cond (b || is_among ks q) (Some (f q)) None
-    by true is later = ap (λ z. Some (f z)) (sym (keys.same_key_is_equal q k is))
+    by : (b : Bool) → same_key q k ≡ b → lookup (same_key q) (beside f ks) ≡ cond (is_among ks q) (Some (record { was_shown = f q })) None
+        → cond b (Some (record { was_shown = f k })) (lookup (same_key q) (beside f ks)) ≡ cond (b || is_among ks q) (Some (record { was_shown = f q })) None
+    by true is later = ap (λ z. Some (record { was_shown = f z })) (sym (keys.same_key_is_equal q k is))
     by false is later = later
 
-cond_not : (b : Bool) (o : Option Bool) → cond b None o ≡ cond (not b) o None
+cond_not : (b : Bool) (o : Option Touch) → cond b None o ≡ cond (not b) o None
 cond_not true o = refl
 cond_not false o = refl
 
@@ -49,19 +50,15 @@ shown_before s q keys =
 told_entries : (a b : Side) (ha hb : List HeaderColumn) (was now : Option FlatRow) (q : ViewKey) → HasKeys a → HasKeys b
     → option_map (as_placed ha) was ≡ entry a q → option_map (as_placed hb) now ≡ entry b q → told ha hb was now ≡ lookup (same_key q) (marked (view a).rows (touched a b))
 told_entries a b ha hb was now q ka kb before after =
-    ap (λ e. cond (same_found e (option_map (as_placed hb) now)) None (Some (is_some was))) before
-    ∙ ap (λ e. cond (same_found (entry a q) e) None (Some (is_some was))) after
-    ∙ ap (λ c. cond (same_found (entry a q) (entry b q)) None (Some c)) (sym (some_mapped (as_placed ha) was) ∙ ap is_some before ∙ shown_before a q ka)
-    ∙ cond_not (same_found (entry a q) (entry b q)) (Some (has_row q (view a).rows))
-    ∙ ap (λ c. cond c (Some (has_row q (view a).rows)) None) (sym (among_touched_keys (placed a) (placed b) q ∙ touched-by_entry a b q ka kb))
+    ap (λ e. cond (same_found e (option_map (as_placed hb) now)) None (Some (record { was_shown = is_some was }))) before
+    ∙ ap (λ e. cond (same_found (entry a q) e) None (Some (record { was_shown = is_some was }))) after
+    ∙ ap (λ c. cond (same_found (entry a q) (entry b q)) None (Some (record { was_shown = c }))) (sym (some_mapped (as_placed ha) was) ∙ ap is_some before ∙ shown_before a q ka)
+    ∙ cond_not (same_found (entry a q) (entry b q)) (Some (record { was_shown = has_row q (view a).rows }))
+    ∙ ap (λ c. cond c (Some (record { was_shown = has_row q (view a).rows })) None) (sym (among_touched_keys (placed a) (placed b) q ∙ touched-by_entry a b q ka kb))
     ∙ sym (lookup-beside (λ k. has_row k (view a).rows) (touched a b) q)
 
-keys_of-beside : (f : ViewKey → Bool) (ks : List ViewKey) → keys_of (map (λ k. (k, f k)) ks) ≡ ks
-keys_of-beside f [] = refl
-keys_of-beside f (k ∷ ks) = ap (λ z. k ∷ z) (keys_of-beside f ks)
-
 -- the keys that were noted with what is told of each are those that the step touches
-pub keys_told : (a b : Side) (ha hb : List HeaderColumn) (was now : ViewKey → Option FlatRow) (noted : List (ViewKey × Bool)) → HasKeys a → HasKeys b
+pub keys_told : (a b : Side) (ha hb : List HeaderColumn) (was now : ViewKey → Option FlatRow) (noted : List (ViewKey × Touch)) → HasKeys a → HasKeys b
     → ((q : ViewKey) → option_map (as_placed ha) (was q) ≡ entry a q) → ((q : ViewKey) → option_map (as_placed hb) (now q) ≡ entry b q)
     → IsStrictlySortedBy key_order (keys_of noted) → ((q : ViewKey) → lookup (same_key q) noted ≡ told ha hb (was q) (now q))
     → noted ≡ marked (view a).rows (touched a b)

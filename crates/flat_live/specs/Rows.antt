@@ -18,6 +18,7 @@ use Rattle.view_types.specs.declared.shown.HeaderColumn.{HeaderColumn}
 use Rattle.view_types.specs.declared.shown.ShownRow.{ShownRow}
 use Rattle.delta_core.specs.KeySets.{is_among}
 use Rattle.delta_core.specs.Rows.{at_key}
+use Rattle.delta_core.specs.declared.touched.Touch.{Touch}
 use Rattle.view_spec.specs.Cells.{with_value}
 use Rattle.view_spec.specs.Entries.{kept_at}
 use Rattle.view_spec.specs.Filters.{cell_in}
@@ -67,12 +68,12 @@ settled plan rows [] k = at_key live_key k rows
 settled plan rows (c ∷ cs) k =
     cond (is_among (changed_keys cs) k) (settled plan rows cs k) (cond (same_key (Row c.key) k) (live_of plan c) (settled plan rows cs k))
 
--- what is told of a key, with each row shown under its own header: whether it was shown, where what is shown differs
-abbrev pub told : List HeaderColumn → List HeaderColumn → Option FlatRow → Option FlatRow → Option Bool
-told first last was now = cond (same_found (option_map (as_placed first) was) (option_map (as_placed last) now)) None (Some (is_some was))
+-- what is told of a key, with each row shown under its own header, where what is shown differs
+abbrev pub told : List HeaderColumn → List HeaderColumn → Option FlatRow → Option FlatRow → Option Touch
+told first last was now = cond (same_found (option_map (as_placed first) was) (option_map (as_placed last) now)) None (Some (record { was_shown = is_some was }))
 
 -- the last changes at these keys were acted on: the keys seen, the rows now, and the keys touched
-pub record IsSettled (plan : Plan) (header : List HeaderColumn) (first : List FlatRow) (changes : List RowChange) (seen_keys : List (ViewKey × Bool)) (now : List FlatRow) (noted : List (ViewKey × Bool)) : Type 0 where
+pub record IsSettled (plan : Plan) (header : List HeaderColumn) (first : List FlatRow) (changes : List RowChange) (seen_keys : List (ViewKey × Bool)) (now : List FlatRow) (noted : List (ViewKey × Touch)) : Type 0 where
   pub seen : (k : ViewKey) → is_some (lookup (same_key k) seen_keys) ≡ is_among (changed_keys changes) k
   pub rows : (k : ViewKey) → at_key live_key k now ≡ settled plan first changes k
   pub touched : (k : ViewKey) → lookup (same_key k) noted ≡ told header header (at_key live_key k first) (settled plan first changes k)
@@ -90,9 +91,9 @@ pub record IsKeptOf (plan : Plan) (pairs : List Pair) (now : List FlatRow) : Typ
 -- ---- two lists, each under its header
 
 -- told of the keys that the first rows of a list have
-pub record TellsOld (first last : List HeaderColumn) (was now met : List FlatRow) (noted : List (ViewKey × Bool)) : Type 0 where
+pub record TellsOld (first last : List HeaderColumn) (was now met : List FlatRow) (noted : List (ViewKey × Touch)) : Type 0 where
   pub each : (k : ViewKey) → lookup (same_key k) noted ≡ cond (is_some (at_key live_key k met)) (told first last (at_key live_key k was) (at_key live_key k now)) None
 
-pub record TellsNew (first last : List HeaderColumn) (was now met : List FlatRow) (noted : List (ViewKey × Bool)) : Type 0 where
+pub record TellsNew (first last : List HeaderColumn) (was now met : List FlatRow) (noted : List (ViewKey × Touch)) : Type 0 where
   pub each : (k : ViewKey) → lookup (same_key k) noted
       ≡ cond (is_some (at_key live_key k met)) (told first last (at_key live_key k was) (at_key live_key k now)) (cond (is_some (at_key live_key k was)) (told first last (at_key live_key k was) (at_key live_key k now)) None)

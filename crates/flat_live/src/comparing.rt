@@ -6,7 +6,7 @@ ghost use Rattle.flat_live.specs.Rows.{TellsNew, TellsOld};
 
 use crate::showing::stays;
 use cell_core::{Copies, Memory, Row};
-use delta_core::TouchedKeys;
+use delta_core::{Touch, TouchedKeys};
 use live_list::LiveList;
 use std::alloc::Global;
 use view_types::HeaderColumn;
@@ -72,7 +72,7 @@ fn note_old(
     if stays(alloc, first, Some(entry), last, now.get(&entry.1.key))? {
         return Ok(());
     }
-    touched.add(entry.1.key.copy(alloc)?, true)
+    touched.add(entry.1.key.copy(alloc)?, Touch { was_shown: true })
 }
 
 /// Notes a key of the new rows, where it isn't among the old ones.
@@ -96,5 +96,5 @@ fn note_new(
     if was.get(&entry.1.key).is_some() {
         return Ok(());
     }
-    touched.add(entry.1.key.copy(alloc)?, false)
+    touched.add(entry.1.key.copy(alloc)?, Touch { was_shown: false })
 }

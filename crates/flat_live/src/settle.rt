@@ -11,7 +11,7 @@ ghost use Rattle.flat_live.specs.Rows.{live_of, told};
 use crate::keep::keep;
 use crate::showing::{FlatEntry, stays};
 use cell_core::{Copies, Memory, Row};
-use delta_core::TouchedKeys;
+use delta_core::{Touch, TouchedKeys};
 use live_list::LiveList;
 use plan_types::Plan;
 use row_batch::RowChange;
@@ -55,7 +55,7 @@ fn keep_new(
     }
 }
 
-/// Notes a key, and whether it was shown, where what is shown differs.
+/// Notes a key, where what is shown differs.
 fn note(
     alloc: Global,
     header: &[HeaderColumn],
@@ -71,5 +71,8 @@ fn note(
     if stays(alloc, header, was, header, now)? {
         return Ok(());
     }
-    touched.add(key, was.is_some())
+    let touch = Touch {
+        was_shown: was.is_some(),
+    };
+    touched.add(key, touch)
 }

@@ -9,6 +9,7 @@ use Rattle.delta_core.specs.Deltas.{marked}
 use Rattle.delta_core.specs.DirtySets.{dirty_of}
 use Rattle.delta_core.specs.Rows.{has_row}
 use Rattle.delta_core.specs.declared.delta.Mark.{Mark}
+use Rattle.delta_core.specs.declared.touched.Touch.{Touch}
 use Rattle.frame_types.specs.Asks.{Ask}
 use Rattle.frame_types.specs.Asks as ask
 use Rattle.frame_types.specs.Refusals.{bad_window, memory, no_table, no_view, view_lost}
@@ -139,13 +140,13 @@ taken_body past session number bound few edit seen = if few then body.Delta (del
 
 pub taken_is : (past : List PastStep) (session number version : ℕ) (live : LiveData) (answer : Body) (a : IsAsked past session number live)
     → version ≡ history.version past
-    → ((keys : List (ViewKey × Bool)) (header : Bool) → live.dirty ≡ dirty_of live.bound keys header
+    → ((keys : List (ViewKey × Touch)) (header : Bool) → live.dirty ≡ dirty_of live.bound keys header
     → answer ≡ live_take_answer live keys header number (record { version = version; edit = live.edit }))
     → answer ≡ take_answer past session number (Some a.view)
 taken_is past session number version live answer a now tells =
     let v : HeldView = a.view in
     let was = base_or_none past session number in
-    let keys : List (ViewKey × Bool) = marked was.shown.rows (dirty past session number) in
+    let keys : List (ViewKey × Touch) = marked was.shown.rows (dirty past session number) in
     let header : Bool = head_dirty past session number in
     let kept : LiveData = live_at past session number v.bound v.edit in
     let IsDirty : LiveData → Type 0 = λ x. x.dirty ≡ dirty_of x.bound keys header in
@@ -156,14 +157,14 @@ taken_is past session number version live answer a now tells =
     ∙ ap (λ (x : LiveData). live_take_answer x keys header number (mark version x.edit)) a.is
     ∙ ap (λ n. live_take_answer kept keys header number (mark n v.edit)) now
     ∙ ap (λ e. live_take_answer kept keys header number (mark (history.version past) e)) (sym (ap edit_by a.found))
-    ∙ ap (λ n. answers (leb n v.bound) (edit_by (held_view past session number)) (shown_in past session number)) (length-map (dirty past session number) (λ k. (k, has_row k was.shown.rows)))
+    ∙ ap (λ n. answers (leb n v.bound) (edit_by (held_view past session number)) (shown_in past session number)) (length-map (dirty past session number) (λ k. (k, record { was_shown = has_row k was.shown.rows })))
     ∙ ap (λ e. answers few e (shown_in past session number)) (ap edit_by a.found)
     ∙ ap (answers few v.edit) (ap (shown_by past) a.found)
 
 -- a take is answered, and the view's base is then that step
 pub take_gives : (kept after : List ViewData) (counts : List ℕ) (past : List PastStep) (session number version : ℕ) (wait : Bool) (live : LiveData) (answer : Body)
     → Keeps kept counts past → version ≡ history.version past → asked_data session number kept ≡ Ok live
-    → ((keys : List (ViewKey × Bool)) (header : Bool) → live.dirty ≡ dirty_of live.bound keys header
+    → ((keys : List (ViewKey × Touch)) (header : Bool) → live.dirty ≡ dirty_of live.bound keys header
     → answer ≡ live_take_answer live keys header number (record { version = version; edit = live.edit }))
     → after ≡ map (rebased_data session number (record { version = version; edit = live.edit })) kept
     → Gives past session (ask.take number wait) answer (Keeps after counts)
@@ -194,7 +195,7 @@ take_gives kept after counts past session number version wait live answer h now 
 -- a take leaves the list of views as it is
 pub take_stays : (kept : List ViewData) (counts : List ℕ) (past : List PastStep) (session number version : ℕ) (wait : Bool) (live : LiveData) (answer : Body)
     → Keeps kept counts past → version ≡ history.version past → asked_data session number kept ≡ Ok live
-    → ((keys : List (ViewKey × Bool)) (header : Bool) → live.dirty ≡ dirty_of live.bound keys header
+    → ((keys : List (ViewKey × Touch)) (header : Bool) → live.dirty ≡ dirty_of live.bound keys header
     → answer ≡ live_take_answer live keys header number (record { version = version; edit = live.edit }))
     → (n at : ℕ) → views (with_step session (ask.take number wait) n at answer past) ≡ views past
 take_stays kept counts past session number version wait live answer h now e tells n at =

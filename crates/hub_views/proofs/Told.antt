@@ -11,6 +11,7 @@ use Rattle.view_types.specs.declared.key.ViewKey.{ViewKey}
 use Rattle.view_types.specs.declared.shown.Shown.{Shown}
 use Rattle.delta_core.specs.DirtySets.{dirty_of}
 use Rattle.delta_core.specs.declared.delta.Mark.{Mark}
+use Rattle.delta_core.specs.declared.touched.Touch.{Touch}
 use Rattle.table_core.specs.Tables.{TableData}
 use Rattle.frame_types.specs.Asks.{Ask}
 use Rattle.frame_types.specs.Asks as ask
@@ -75,7 +76,7 @@ asked_is_refused v t past session number request rest why h e are =
 -- a take is answered
 pub taken_gives : (v after : Views) (t : TableData) (past : List PastStep) (session number version : ℕ) (wait : Bool) (live : LiveView) (answer : Body)
     → HoldsViews v t past → version ≡ history.version past → asked_at session number v.items.items ≡ Ok live
-    → ((keys : List (ViewKey × Bool)) (header : Bool) → live.dirty ≡ dirty_of live.bound keys header
+    → ((keys : List (ViewKey × Touch)) (header : Bool) → live.dirty ≡ dirty_of live.bound keys header
     → answer ≡ live_take_answer (live_data live) keys header number (record { version = version; edit = live.edit }))
     → after.opened ≡ v.opened → after.items.items ≡ map (rebased_at session number (record { version = version; edit = live.edit })) v.items.items
     → Gives past session (ask.take number wait) answer (HoldsViews after t)

@@ -5,6 +5,7 @@ use Rattle.view_types.specs.declared.shown.Shown.{Shown}
 use Rattle.delta_core.specs.Deltas.{delta_of}
 use Rattle.delta_core.specs.DirtySets.{DirtyData, dirty_of}
 use Rattle.delta_core.specs.declared.delta.Mark.{Mark}
+use Rattle.delta_core.specs.declared.touched.Touch.{Touch}
 use Rattle.flat_live.specs.Flat.{flat_shown}
 use Rattle.flat_live.specs.declared.live.FlatLive.{FlatLive}
 use Rattle.frame_types.specs.declared.reply.Body.{Body}
@@ -49,7 +50,7 @@ abbrev pub fresh_live : ℕ → Mark → FlatLive → LiveView
 fresh_live bound base rows = record { bound = bound; edit = base.edit; rows = rows; base = base; dirty = dirty_of bound [] false }
 
 -- the delta from its base to a mark where at most so many keys as its bound were touched, and else all that it shows
-abbrev pub live_take_answer : LiveData → List (ViewKey × Bool) → Bool → ℕ → Mark → Body
+abbrev pub live_take_answer : LiveData → List (ViewKey × Touch) → Bool → ℕ → Mark → Body
 live_take_answer live keys header view mark =
     if nat_le (length keys) live.bound then body.Delta (delta_of keys header live.shown live.base mark) view
     else body.Resync live.bound mark.edit live.shown view

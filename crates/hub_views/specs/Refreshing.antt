@@ -3,6 +3,7 @@ use Rattle.std.specs.Prelude.{◌≡◌, ℕ, ◌+◌, ◌≤◌, List, [], ◌�
 use Rattle.std.specs.List.{AllZip, list_all}
 use Rattle.std.specs.Vec.{vec_len, vec_capacity}
 use Rattle.delta_core.specs.DirtySets.{dirty_of, joined}
+use Rattle.delta_core.specs.declared.touched.Touch.{Touch}
 use Rattle.frame_types.specs.declared.reply.Body.{Body}
 use Rattle.frame_types.specs.declared.reply.Body.TheVariants.{Applied, AppliedLosing}
 use Rattle.plan_types.specs.declared.plan.Plan.{Plan}
@@ -36,7 +37,7 @@ pub record IsBrought (changes : List RowChange) (now : TableData) (was after : L
   pub edit : after.edit ≡ was.edit
   pub base : after.base ≡ was.base
   pub stands : (s : Side) → StandsFlat was.rows s → IsStep s changes now → StandsFlat after.rows (side_at s now)
-  pub dirty : (s : Side) (keys : List (ViewKey × Bool)) (header : Bool) → StandsFlat was.rows s → IsStep s changes now → was.dirty ≡ dirty_of was.dirty.bound keys header
+  pub dirty : (s : Side) (keys : List (ViewKey × Touch)) (header : Bool) → StandsFlat was.rows s → IsStep s changes now → was.dirty ≡ dirty_of was.dirty.bound keys header
       → after.dirty ≡ dirty_of was.dirty.bound (joined keys (touched_between s (side_at s now))) (header || head_touched s (side_at s now))
 
 -- a view that could be asked is brought there or is lost at that version; one that was lost stays so

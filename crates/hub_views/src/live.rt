@@ -1,6 +1,7 @@
 ghost use Rattle.std.specs.Prelude.{◌≡◌, List, Bool, IfOk, OnOk};
 ghost use Rattle.view_types.specs.declared.key.ViewKey.{ViewKey};
 ghost use Rattle.delta_core.specs.DirtySets.{dirty_of};
+ghost use Rattle.delta_core.specs.declared.touched.Touch.{Touch};
 ghost use Rattle.hub_spec.specs.Giving.{IsOfViews};
 ghost use Rattle.hub_views.specs.Live.{fresh_live, live_data, live_take_answer, rebased_live};
 ghost use Rattle.hub_views.specs.Refreshing.{IsBrought};
@@ -47,7 +48,7 @@ impl LiveView {
 
     /// The delta from its base to a mark, or all that it shows, where more keys were touched than the bound.
     pub fn take_answer(&self, alloc: Global, view: u64, mark: Mark) -> Result<Body, Memory>
-        ensures value { (keys : List (ViewKey × Bool)) (header : Bool) → self.now.dirty ≡ dirty_of self.now.bound keys header
+        ensures value { (keys : List (ViewKey × Touch)) (header : Bool) → self.now.dirty ≡ dirty_of self.now.bound keys header
             → IfOk result (λ answer. answer ≡ live_take_answer (live_data self.now) keys header view mark) }
         ensures about { IfOk result (IsOfViews mark.version) }
     {

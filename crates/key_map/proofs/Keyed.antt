@@ -9,9 +9,8 @@ use Rattle.std.proofs.lemmas.Option.{same_Some}
 use Rattle.view_types.specs.Keys.{same_key}
 use Rattle.view_types.specs.declared.key.ViewKey.{ViewKey}
 use Rattle.view_types.specs.declared.shown.ShownRow.{ShownRow}
-use Rattle.view_types.proofs.KeyOrder.{same_key_is_equal, same_key_itself}
+use Rattle.view_types.proofs.KeyOrder.{same_key_is_equal, same_key_itself, same_key-symm}
 use Rattle.delta_core.specs.Rows.{at_key, position_of, row_at}
-use Rattle.delta_core.proofs.KeyLemmas.{same_key-symm}
 use Rattle.key_map.specs.Keyed.{GivesPositions, index_of, same_by}
 
 -- ---- all items

@@ -9,9 +9,8 @@ use Rattle.std.proofs.lemmas.Cmp.{tied_itself}
 use Rattle.std.proofs.lemmas.Option.{same_Some}
 use Rattle.view_types.specs.Keys.{same_key}
 use Rattle.view_types.specs.declared.key.ViewKey.{ViewKey}
-use Rattle.view_types.proofs.KeyOrder.{same_key_is_equal, same_key_itself}
+use Rattle.view_types.proofs.KeyOrder.{same_key_is_equal, same_key_itself, same_key-symm}
 use Rattle.delta_core.specs.Rows.{at_key}
-use Rattle.delta_core.proofs.KeyLemmas.{same_key-symm}
 use Rattle.rank_list.proofs.Order.{all_insert, all_remove}
 use Rattle.key_map.specs.Keyed.{same_by}
 use Rattle.key_map.proofs.Keyed.{all_from_none, all_get, none_from_all, none_parts}

@@ -1,11 +1,12 @@
 -- A flat view that is computed anew stands for what the table has.
-use Rattle.std.proofs.Common.{◌≡◌, ℕ, Bool, List, take, drop, sym, ◌∙◌, ap, subst}
+use Rattle.std.proofs.Common.{◌≡◌, ℕ, List, take, drop, sym, ◌∙◌, ap, subst}
 use Rattle.std.specs.List.{drop-map}
 use Rattle.std.proofs.lemmas.List.{take-map}
 use Rattle.plan_types.specs.declared.plan.Plan.{Plan}
 use Rattle.table_core.specs.Tables.{TableData}
 use Rattle.view_types.specs.declared.key.ViewKey.{ViewKey}
 use Rattle.delta_core.specs.Deltas.{marked}
+use Rattle.delta_core.specs.declared.touched.Touch.{Touch}
 use Rattle.view_spec.specs.LookUps.{marked_in}
 use Rattle.view_spec.specs.Openings.{Opening}
 use Rattle.view_spec.specs.Touching.{touched, touched_keys}
@@ -32,7 +33,7 @@ stands_new plan shown s table same fits columns is = record {
   rows = is.rows s.opening ∙ ap (λ p. placed (side_of p s.opening table)) same;
 }
 
-pub keys_between : (a b : Side) (was now : List PlacedRow) (keys : List (ViewKey × Bool)) → was ≡ placed a → now ≡ placed b → keys ≡ marked_in was (touched_keys was now)
+pub keys_between : (a b : Side) (was now : List PlacedRow) (keys : List (ViewKey × Touch)) → was ≡ placed a → now ≡ placed b → keys ≡ marked_in was (touched_keys was now)
     → keys ≡ marked (view a).rows (touched a b)
 keys_between a b was now keys first last made =
     made ∙ ap (λ xs. marked_in xs (touched_keys xs now)) first ∙ ap (λ ys. marked_in (placed a) (touched_keys (placed a) ys)) last

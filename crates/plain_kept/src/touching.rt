@@ -6,7 +6,7 @@ ghost use Rattle.view_spec.specs.Touching.{key_of, touched_keys};
 
 use crate::keyed::{KeyedRows, KeyedView};
 use cell_core::{Copies, Memory};
-use delta_core::{Touched, TouchedKeys};
+use delta_core::{Touch, Touched, TouchedKeys};
 use std::alloc::Global;
 use view_spec::PlacedRow;
 use view_types::same_header;
@@ -39,7 +39,7 @@ fn add_changed(
 {
     for row in was {
         if !stays(row, now) {
-            keys.add(row.row.key.copy(alloc)?, true)?;
+            keys.add(row.row.key.copy(alloc)?, Touch { was_shown: true })?;
         }
     }
     Ok(())
@@ -56,7 +56,7 @@ fn add_new(
 {
     for row in now {
         if was.get(&row.row.key).is_none() {
-            keys.add(row.row.key.copy(alloc)?, false)?;
+            keys.add(row.row.key.copy(alloc)?, Touch { was_shown: false })?;
         }
     }
     Ok(())

@@ -1,6 +1,6 @@
 -- Windows of shown rows.
 use Rattle.std.proofs.Common.{◌≡◌, ◌≢◌, ℕ, zero, suc, List, [], ◌∷◌, take, drop, map, ◌∙◌, ap, subst}
-use Rattle.std.specs.List.{All, drop-map}
+use Rattle.std.specs.List.{drop-map}
 use Rattle.std.proofs.lemmas.List.{take-map}
 use Rattle.std.proofs.lemmas.List.Elements.{All-drop, All-take}
 use Rattle.plain_data.specs.Distinct.{AreDistinct}

@@ -1,10 +1,11 @@
 -- Steps of a table, as its views meet them.
-use Rattle.std.specs.Prelude.{◌≡◌, List, Bool, IsPermutation}
+use Rattle.std.specs.Prelude.{◌≡◌, List, IsPermutation}
 use Rattle.row_batch.specs.Changes.{FitRows, changed_all}
 use Rattle.row_batch.specs.declared.change.RowChange.{RowChange}
 use Rattle.table_core.specs.Tables.{TableData}
 use Rattle.view_types.specs.declared.key.ViewKey.{ViewKey}
 use Rattle.delta_core.specs.Deltas.{marked}
+use Rattle.delta_core.specs.declared.touched.Touch.{Touch}
 use Rattle.plan_types.specs.declared.plan.Plan.{Plan}
 use Rattle.view_spec.specs.Laws.{HasKeys}
 use Rattle.view_spec.specs.Openings.{Opening}
@@ -33,5 +34,5 @@ abbrev pub side_at : Side → TableData → Side
 side_at s table = side_of s.plan s.opening table
 
 -- the keys that differ between two sides, each beside whether the first shows it
-abbrev pub touched_between : Side → Side → List (ViewKey × Bool)
+abbrev pub touched_between : Side → Side → List (ViewKey × Touch)
 touched_between a b = marked (view a).rows (touched a b)

@@ -1,5 +1,6 @@
 ghost use Rattle.std.specs.Prelude.{◌≡◌, ◌||◌, List, Bool, OnOk};
 ghost use Rattle.delta_core.specs.DirtySets.{dirty_of, joined};
+ghost use Rattle.delta_core.specs.declared.touched.Touch.{Touch};
 ghost use Rattle.view_types.specs.declared.key.ViewKey.{ViewKey};
 ghost use Rattle.view_spec.specs.Touching.{head_touched};
 ghost use Rattle.view_spec.specs.Views.{Side};
@@ -38,7 +39,7 @@ impl<V: KeptView + Drop> LiveView<V> {
     ) -> Result<(), Memory>
         ensures stands { (s : Side) → V.stands_for self.old.rows s → IsStep s changes.now table.now → OnOk result (V.stands_for self.new.rows (side_at s table.now)) }
         ensures base { OnOk result (self.new.base ≡ self.old.base) }
-        ensures dirty { (s : Side) (keys : List (ViewKey × Bool)) (header : Bool) → V.stands_for self.old.rows s → IsStep s changes.now table.now
+        ensures dirty { (s : Side) (keys : List (ViewKey × Touch)) (header : Bool) → V.stands_for self.old.rows s → IsStep s changes.now table.now
             → self.old.dirty ≡ dirty_of self.old.dirty.bound keys header
             → OnOk result (self.new.dirty ≡ dirty_of self.old.dirty.bound (joined keys (touched_between s (side_at s table.now))) (header || head_touched s (side_at s table.now))) }
     {

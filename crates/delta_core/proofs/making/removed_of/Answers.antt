@@ -12,4 +12,4 @@ from_listed-requires g c =
     let keys = c.args.keys.now.entries in
     let rows = (g.V.ShownNow.shown c.args.view.now).rows in
     subst (λ ks. AreDistinct ks) (sym (c.from_vec.ensures ∙ c.in_ok-removed.ensures))
-    (AreDistinct-filter (λ e. e.0) (λ e. e.1 && not (has_row e.0 rows)) keys (AreDistinct-from_ascending ghosts.cmp total-law (keys_of keys) c.len-ascending.ensures.ordered))
+    (AreDistinct-filter (λ e. e.0) (λ e. e.1.was_shown && not (has_row e.0 rows)) keys (AreDistinct-from_ascending ghosts.cmp total-law (keys_of keys) c.len-ascending.ensures.ordered))

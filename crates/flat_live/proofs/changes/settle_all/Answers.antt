@@ -1,7 +1,8 @@
-use Rattle.std.proofs.Common.{◌≡◌, ◌+◌, ◌-◌, Bool, Ordering, List, drop, length, ap, subst, ◌∙◌, arith}
+use Rattle.std.proofs.Common.{◌≡◌, ◌+◌, ◌-◌, Ordering, List, drop, length, ap, subst, ◌∙◌, arith}
 use Rattle.std.specs.List.Sorted.{IsStrictlySortedBy}
 use Rattle.std.specs.Map.{keys_of}
 use Rattle.delta_core.specs.Rows.{at_key}
+use Rattle.delta_core.specs.declared.touched.Touch.{Touch}
 use Rattle.view_types.specs.contracts.key.ViewKeyOrd.TheImpl.{ghosts}
 use Rattle.view_types.specs.declared.key.ViewKey.{ViewKey}
 use Rattle.view_types.proofs.KeyOrder.{derived}
@@ -41,4 +42,4 @@ returns-clause-touched c = λ k.
 pub returns-clause-ascending : goal.returns-clause-ascending
 returns-clause-ascending c =
     subst (λ (R : ViewKey → ViewKey → Ordering). IsStrictlySortedBy R (keys_of c.loop-i.touched)) derived
-    (subst (λ (es : List (ViewKey × Bool)). IsStrictlySortedBy ghosts.cmp (keys_of es)) c.entries.ensures c.len-count.ensures.ordered)
+    (subst (λ (es : List (ViewKey × Touch)). IsStrictlySortedBy ghosts.cmp (keys_of es)) c.entries.ensures c.len-count.ensures.ordered)

@@ -1,6 +1,7 @@
-use Rattle.std.proofs.Common.{List, Bool, false, drop, is_some, ap, sym, subst, ◌∙◌}
+use Rattle.std.proofs.Common.{List, false, drop, is_some, ap, sym, subst, ◌∙◌}
 use Rattle.view_types.specs.declared.key.ViewKey.{ViewKey}
 use Rattle.delta_core.specs.DirtySets.{with_touched}
+use Rattle.delta_core.specs.declared.touched.Touch.{Touch}
 use Rattle.flat_live.specs.Rows.{TellsNew}
 use Rattle.flat_live.proofs.Compares.{new_known, new_noted}
 use Rattle.flat_live.proofs.Options.{copied_some, ok_map}
@@ -14,8 +15,8 @@ returns-then-is_some c =
 pub returns : goal.returns
 returns c =
     ok_map c.add.result
-    (λ h. subst (λ (es : List (ViewKey × Bool)). TellsNew c.args.first.now c.args.last.now c.args.was.now c.args.now.now (drop c.args.at c.args.now.now) es)
-    (sym (h ∙ ap (λ z. with_touched c.args.touched.now (z, false)) c.in_ok-copy.ensures))
+    (λ h. subst (λ (es : List (ViewKey × Touch)). TellsNew c.args.first.now c.args.last.now c.args.was.now c.args.now.now (drop c.args.at c.args.now.now) es)
+    (sym (h ∙ ap (λ z. with_touched c.args.touched.now (z, record { was_shown = false })) c.in_ok-copy.ensures))
     (new_noted c.args.first.now c.args.last.now c.args.was.now c.args.now.now c.in-Some.entry.now c.args.at c.args.touched.now c.len-count.ensures.live.differ (sym c.in-Some.ensures) c.requires.tells
     (ap is_some (sym c.get.ensures) ∙ copied_some c.get.result ∙ sym c.is_some.ensures ∙ c.if-is_some.false)))
     c.add.ensures.ok
