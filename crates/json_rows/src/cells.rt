@@ -11,8 +11,9 @@ use std::alloc::Global;
 /// What a row does to a column, or the cause against what it has there.
 type PatchRead = Result<PatchCell, RowCause>;
 
-/// The cell that a value is in a column of that type, or the cause against it.
-pub(crate) fn cell_of(alloc: Global, kind: CellType, value: &Raw) -> Result<CellRead, Memory>
+/// The cell that a value is in a column of that type, or the cause against it: null is a cell of every type. Want of
+/// memory is the only outer refusal.
+pub fn cell_of(alloc: Global, kind: CellType, value: &Raw) -> Result<CellRead, Memory>
     ensures { IfOk result (λ read. read ≡ cell_of kind (raw_view value.now)) }
 {
     Ok(match (kind, value) {

@@ -11,6 +11,7 @@ mod convert;
 mod keys;
 mod rows;
 
+pub use cells::cell_of;
 pub use convert::raw_of;
 pub use keys::batch_keys;
 pub use rows::batch_rows;

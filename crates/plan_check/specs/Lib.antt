@@ -1,1 +1,9 @@
 pub mod Kinds
+pub mod Words
+pub mod Faults
+pub mod Trees
+pub mod Expressions
+pub mod Columns
+pub mod Filters
+pub mod Sorts
+pub mod Plans

@@ -1,6 +1,7 @@
 ghost use Rattle.std.specs.Prelude.{◌≡◌, OnOk, IfOk};
 ghost use Rattle.expr_spec.specs.TreeViews.{tree_view};
 ghost use Rattle.expr_spec.specs.Typing.{kind_of, numbered, IsCheckedTree};
+ghost use Rattle.plan_check.specs.Trees.{tree_of};
 
 use crate::number::number;
 use crate::typing::tree_kind;
@@ -14,6 +15,7 @@ pub fn check_tree(schema: &Schema, tree: &mut Tree) -> Result<CellType, TreeRefu
     ensures kind { result ≡ kind_of schema.now.columns (tree_view tree.old) }
     ensures checked { IfOk result (IsCheckedTree schema.now.columns (tree_view tree.new)) }
     ensures numbered { OnOk result (tree_view tree.new ≡ numbered schema.now.columns (tree_view tree.old)) }
+    ensures tree { OnOk result (tree.new ≡ tree_of (numbered schema.now.columns (tree_view tree.old))) }
 {
     let kind = tree_kind(schema, tree)?;
     number(schema, tree);
