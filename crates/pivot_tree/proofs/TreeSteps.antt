@@ -29,7 +29,7 @@ use Rattle.pivot_tree.specs.Families.{At, IsCountOf, at_cell, at_path, rows_unde
 use Rattle.pivot_tree.specs.Groups.{CanPut, HasRow, IsGroupOf, Takes, with_row, without_row}
 use Rattle.pivot_tree.specs.Nodes.{IsNodeOf, StandsAt, is_next}
 use Rattle.pivot_tree.specs.Columns.{Uses, is_used, used_columns}
-use Rattle.pivot_tree.specs.Trees.{AreReached, CanAddRow, NodeAt, NodesOf}
+use Rattle.pivot_tree.specs.Trees.{CanAddRow, NodeAt, NodesOf}
 use Rattle.pivot_tree.specs.declared.node.Node.{Node}
 use Rattle.pivot_tree.proofs.NodeSteps.{members-with, same_cell_is_equal, same_cell_itself}
 use Rattle.pivot_tree.proofs.Rows.{filter-with_other, filter-without_other, length-with_row}
@@ -130,6 +130,11 @@ NodeAt-put plan used rows p path split next node at up is =
     (is, let longer = ap length (members-with plan path p split next at used rows up) in let more = length-with_row (members plan rows path) p in omega arith)
 
 -- ---- from one depth to the next
+
+-- up to a depth the nodes are those of the later rows, and below it those of the earlier
+pub record AreReached (plan : Plan) (used : List Named) (before after : List Pair) (depth : ℕ) (entries : List (List Cell × Node)) : Type 0 where
+  pub upper : (c : Cell) (cs : List Cell) → length (c ∷ cs) ≤ depth → NodeAt plan used after (at_path entries (c ∷ cs)) (c ∷ cs)
+  pub lower : (c : Cell) (cs : List Cell) → depth < length (c ∷ cs) → NodeAt plan used before (at_path entries (c ∷ cs)) (c ∷ cs)
 
 pub AreReached-start : (plan : Plan) (used : List Named) (before after : List Pair) (entries : List (List Cell × Node)) → NodesOf plan used before entries → AreReached plan used before after 0 entries
 AreReached-start plan used before after entries h = record { upper = λ c cs short. absurd (omega arith); lower = λ c cs long. h c cs }

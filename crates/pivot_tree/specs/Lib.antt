@@ -3,3 +3,4 @@ pub mod Groups
 pub mod Families
 pub mod Nodes
 pub mod Trees
+pub mod Laws

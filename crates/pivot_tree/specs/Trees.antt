@@ -1,5 +1,5 @@
 -- What a tree has of a view's kept rows.
-use Rattle.std.specs.Prelude.{◌≡◌, ℕ, ◌<◌, ◌≤◌, true, false, List, [], ◌∷◌, length, All, Option, Some, None}
+use Rattle.std.specs.Prelude.{◌≡◌, ◌<◌, ◌≤◌, true, false, List, [], ◌∷◌, length, All, Option, Some, None}
 use Rattle.std.specs.List.Sorted.{IsStrictlySortedBy}
 use Rattle.cell_core.specs.Limits.{max_rows}
 use Rattle.cell_core.specs.declared.cell.Cell.{Cell}
@@ -29,11 +29,6 @@ NodeAt plan used rows o path = At (λ node ms. IsNodeOf plan used path node rows
 -- the same below the total
 abbrev pub NodesOf : Plan → List Named → List Pair → List (List Cell × Node) → Type 0
 NodesOf plan used rows entries = (c : Cell) (cs : List Cell) → NodeAt plan used rows (at_path entries (c ∷ cs)) (c ∷ cs)
-
--- up to a depth the nodes are those of the later rows, and below it those of the earlier
-pub record AreReached (plan : Plan) (used : List Named) (before after : List Pair) (depth : ℕ) (entries : List (List Cell × Node)) : Type 0 where
-  pub upper : (c : Cell) (cs : List Cell) → length (c ∷ cs) ≤ depth → NodeAt plan used after (at_path entries (c ∷ cs)) (c ∷ cs)
-  pub lower : (c : Cell) (cs : List Cell) → depth < length (c ∷ cs) → NodeAt plan used before (at_path entries (c ∷ cs)) (c ∷ cs)
 
 -- ---- the tree
 

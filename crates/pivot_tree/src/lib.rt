@@ -16,6 +16,7 @@ mod build;
 mod column;
 mod count;
 mod group;
+mod laws;
 mod level;
 mod node;
 mod path;
@@ -24,5 +25,6 @@ mod tree;
 mod used;
 
 pub use build::tree_of;
+pub use laws::keys_tell_rows;
 pub use node::Node;
 pub use tree::PivotTree;

@@ -23,7 +23,7 @@ use std::sync::ledger::Ledger;
 
 /// The groups of a view's kept rows: the total, and a node at each path that some row's group cells begin with.
 ///
-/// It keeps no rows: `IsTreeOf` says for which lists of kept rows it stands, ascending by key.
+/// `IsTreeOf` says for which lists of kept rows it stands, ascending by key.
 #[derive(Drop)]
 pub struct PivotTree {
     group_by: Vec<usize>,

@@ -6,7 +6,8 @@ use Rattle.plan_types.specs.declared.plan.Plan.{Plan}
 use Rattle.view_spec.specs.Kept.{by_key}
 use Rattle.view_spec.specs.Members.{group_of, split_of}
 use Rattle.pivot_tree.specs.Groups.{CanPut, with_row}
-use Rattle.pivot_tree.specs.Trees.{AreReached, NodesOf}
+use Rattle.pivot_tree.specs.Trees.{NodesOf}
+use Rattle.pivot_tree.proofs.TreeSteps.{AreReached}
 use Rattle.pivot_tree.proofs.level.add_below.Given as goal
 
 abbrev pub invariant-loop-cell : goal.invariant-loop-cell

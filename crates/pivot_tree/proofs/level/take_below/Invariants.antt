@@ -5,7 +5,8 @@ use Rattle.plan_types.specs.declared.plan.Named.{Named}
 use Rattle.plan_types.specs.declared.plan.Plan.{Plan}
 use Rattle.view_spec.specs.Members.{group_of, split_of}
 use Rattle.pivot_tree.specs.Groups.{HasRow, without_row}
-use Rattle.pivot_tree.specs.Trees.{AreReached, NodesOf}
+use Rattle.pivot_tree.specs.Trees.{NodesOf}
+use Rattle.pivot_tree.proofs.TreeSteps.{AreReached}
 use Rattle.pivot_tree.proofs.level.take_below.Given as goal
 
 abbrev pub invariant-loop-cell : goal.invariant-loop-cell
