@@ -1,7 +1,7 @@
 ghost use Rattle.std.specs.Prelude.{◌≡◌, IfOk, OnOk, map, option_map};
 ghost use Rattle.serde_json.specs.Data.{put as put_member, string};
 ghost use Rattle.serde_json.specs.View.{view, items_view};
-ghost use Rattle.frame_types.specs.Refusals.{cause_text};
+ghost use Rattle.frame_types.specs.Refusals.{cause_name, cause_place, cause_text};
 ghost use Rattle.frame_json.specs.Replies.{lost_view, lost_data, at_items, mark_data, words_data, columns_data, form_of as form_named, reply_data};
 
 use crate::member::Members;
@@ -9,6 +9,7 @@ use crate::show::{header, keys, pair, placed_rows, rows, words};
 use cell_core::{ColumnWords, Memory, Numbers, Text};
 use delta_core::{Delta, Mark};
 use frame_types::{Body, Cause, Refusal, Reply};
+use plan_json::PlanPart;
 use serde_json::{Map, Value, put};
 use std::alloc::Global;
 use view_types::Shown;
@@ -107,7 +108,8 @@ impl Builder {
         ensures { OnOk result (members_in self.new ≡ with_members (members_in self.old) (refusal_members refusal)) }
     {
         self.put("at", Value::Array(places(self.alloc, refusal.at)?))?;
-        self.words("cause", cause_name(refusal.cause))?;
+        let cause = cause_text(self.alloc, refusal.cause)?;
+        self.words("cause", cause.as_str())?;
         self.numbers(&[("code", u64::from(refusal.code))])
     }
 
@@ -196,8 +198,33 @@ fn form_of(body: &Body) -> &'static str
     }
 }
 
+/// The words of a cause, behind the member of a plan where it is of one.
+fn cause_text(alloc: Global, cause: Cause) -> Result<Text, Memory>
+    ensures { IfOk result (λ text. text ≡ cause_text cause) }
+{
+    let mut text = String::from_str(alloc, cause_place(cause))?;
+    text.push_str(cause_name(cause))?;
+    Ok(Text::from_string(text))
+}
+
+fn cause_place(cause: Cause) -> &'static str
+    ensures { result.now ≡ cause_place cause }
+{
+    match cause {
+        Cause::Plan(PlanPart::Expressions, _) => "expressions: ",
+        Cause::Plan(PlanPart::Columns, _) => "columns: ",
+        Cause::Plan(PlanPart::GroupBy, _) => "group_by: ",
+        Cause::Plan(PlanPart::SplitBy, _) => "split_by: ",
+        Cause::Plan(PlanPart::Aggregates, _) => "aggregates: ",
+        Cause::Plan(PlanPart::Filter, _) => "filter: ",
+        Cause::Plan(PlanPart::FilterOp, _) => "filter_op: ",
+        Cause::Plan(PlanPart::Sort, _) => "sort: ",
+        _ => "",
+    }
+}
+
 fn cause_name(cause: Cause) -> &'static str
-    ensures { result.now ≡ cause_text cause }
+    ensures { result.now ≡ cause_name cause }
 {
     match cause {
         Cause::Long => "long",
@@ -231,6 +258,8 @@ fn cause_name(cause: Cause) -> &'static str
         Cause::TableFull => "table full",
         Cause::HistoryFull => "history full",
         Cause::Empty => "empty",
+        Cause::PlanForm => "form",
+        Cause::Plan(_, word) => word.word(),
         Cause::TooManyViews => "too many views",
         Cause::NoView => "no view",
         Cause::ViewLost => "view lost",

@@ -1,5 +1,5 @@
 -- The refusals, each with its code and its cause.
-use Rattle.std.specs.Prelude.{ℕ, List, codes}
+use Rattle.std.specs.Prelude.{ℕ, List, [], ◌++◌, codes}
 use Rattle.cell_core.specs.declared.schema.Numbers.{Numbers}
 use Rattle.cell_core.specs.declared.schema.Numbers.TheVariants.{Zero, One, Two}
 use Rattle.cell_core.specs.declared.schema.SchemaCause.{SchemaCause}
@@ -7,6 +7,9 @@ use Rattle.cell_core.specs.declared.schema.SchemaCause.TheVariants as schema
 use Rattle.row_batch.specs.declared.refused.BatchRefused.{BatchRefused}
 use Rattle.row_batch.specs.declared.refused.RowCause.{RowCause}
 use Rattle.row_batch.specs.declared.refused.RowCause.TheVariants as row
+use Rattle.plan_json.specs.Words.{part_name, plan_word}
+use Rattle.plan_json.specs.declared.words.PlanCause.{PlanCause}
+use Rattle.plan_json.specs.declared.words.PlanPart.{PlanPart}
 use Rattle.frame_types.specs.declared.request.FrameCause.{FrameCause}
 use Rattle.frame_types.specs.declared.request.FrameCause.TheVariants as frame
 use Rattle.frame_types.specs.declared.reply.Cause.{Cause}
@@ -15,44 +18,54 @@ use Rattle.frame_types.specs.declared.reply.Refusal.{Refusal}
 
 -- ---- the words
 
+abbrev pub cause_name : Cause → List ℕ
+cause_name cause.Long = codes "long"
+cause_name cause.Json = codes "json"
+cause_name cause.Object = codes "object"
+cause_name cause.Op = codes "op"
+cause_name cause.Member = codes "member"
+cause_name cause.Unbuilt = codes "unbuilt"
+cause_name cause.TableSet = codes "table set"
+cause_name cause.NoColumns = codes "no columns"
+cause_name cause.TooManyColumns = codes "too many columns"
+cause_name cause.NameLength = codes "name length"
+cause_name cause.BadType = codes "type"
+cause_name cause.Twice = codes "twice"
+cause_name cause.IndexAndLimit = codes "index and limit"
+cause_name cause.Index = codes "index"
+cause_name cause.Limit = codes "limit"
+cause_name cause.TooManyPorts = codes "too many ports"
+cause_name cause.NoPort = codes "no port"
+cause_name cause.PortClosed = codes "port closed"
+cause_name cause.Shape = codes "shape"
+cause_name cause.Csv = codes "csv"
+cause_name cause.Header = codes "header"
+cause_name cause.Unknown = codes "unknown"
+cause_name cause.Length = codes "length"
+cause_name cause.Rows = codes "rows"
+cause_name cause.Date = codes "date"
+cause_name cause.Range = codes "range"
+cause_name cause.NotIndexed = codes "not indexed"
+cause_name cause.PortFull = codes "port full"
+cause_name cause.TableFull = codes "table full"
+cause_name cause.HistoryFull = codes "history full"
+cause_name cause.Empty = codes "empty"
+cause_name cause.PlanForm = codes "form"
+cause_name (cause.Plan part word) = plan_word word
+cause_name cause.TooManyViews = codes "too many views"
+cause_name cause.NoView = codes "no view"
+cause_name cause.ViewLost = codes "view lost"
+cause_name cause.Window = codes "window"
+cause_name cause.NoTable = codes "no table"
+cause_name cause.Memory = codes "memory"
+
+-- the member of a plan stands before its cause
+abbrev pub cause_place : Cause → List ℕ
+cause_place (cause.Plan part word) = part_name part ++ codes ": "
+cause_place other = []
+
 abbrev pub cause_text : Cause → List ℕ
-cause_text cause.Long = codes "long"
-cause_text cause.Json = codes "json"
-cause_text cause.Object = codes "object"
-cause_text cause.Op = codes "op"
-cause_text cause.Member = codes "member"
-cause_text cause.Unbuilt = codes "unbuilt"
-cause_text cause.TableSet = codes "table set"
-cause_text cause.NoColumns = codes "no columns"
-cause_text cause.TooManyColumns = codes "too many columns"
-cause_text cause.NameLength = codes "name length"
-cause_text cause.BadType = codes "type"
-cause_text cause.Twice = codes "twice"
-cause_text cause.IndexAndLimit = codes "index and limit"
-cause_text cause.Index = codes "index"
-cause_text cause.Limit = codes "limit"
-cause_text cause.TooManyPorts = codes "too many ports"
-cause_text cause.NoPort = codes "no port"
-cause_text cause.PortClosed = codes "port closed"
-cause_text cause.Shape = codes "shape"
-cause_text cause.Csv = codes "csv"
-cause_text cause.Header = codes "header"
-cause_text cause.Unknown = codes "unknown"
-cause_text cause.Length = codes "length"
-cause_text cause.Rows = codes "rows"
-cause_text cause.Date = codes "date"
-cause_text cause.Range = codes "range"
-cause_text cause.NotIndexed = codes "not indexed"
-cause_text cause.PortFull = codes "port full"
-cause_text cause.TableFull = codes "table full"
-cause_text cause.HistoryFull = codes "history full"
-cause_text cause.Empty = codes "empty"
-cause_text cause.TooManyViews = codes "too many views"
-cause_text cause.NoView = codes "no view"
-cause_text cause.ViewLost = codes "view lost"
-cause_text cause.Window = codes "window"
-cause_text cause.NoTable = codes "no table"
-cause_text cause.Memory = codes "memory"
+cause_text why = cause_place why ++ cause_name why
 
 abbrev pub frame_cause : FrameCause → Cause
 frame_cause frame.Long = cause.Long
@@ -135,6 +148,14 @@ history_full limit = record { code = 11; cause = cause.HistoryFull; at = One lim
 -- no batch waits on the port
 abbrev pub empty : Refusal
 empty = record { code = 12; cause = cause.Empty; at = Zero }
+
+-- a plan that is no object of a plan's members
+abbrev pub plan_form : Refusal
+plan_form = record { code = 13; cause = cause.PlanForm; at = Zero }
+
+-- a member of a plan
+abbrev pub bad_plan : PlanPart → PlanCause → Numbers → Refusal
+bad_plan part why at = record { code = 13; cause = cause.Plan part why; at = at }
 
 -- 16 views are held
 abbrev pub too_many_views : Refusal

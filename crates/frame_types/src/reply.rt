@@ -1,5 +1,6 @@
 use cell_core::{Columns, Listed, Numbers, Text};
 use delta_core::Delta;
+use plan_json::{PlanCause, PlanPart};
 use std::marker::Model;
 use view_types::Shown;
 
@@ -68,6 +69,10 @@ pub enum Cause {
     HistoryFull,
     /// No batch waits on the port.
     Empty,
+    /// A plan is no object of a plan's members.
+    PlanForm,
+    /// A member of a plan is refused.
+    Plan(PlanPart, PlanCause),
     /// Too many views are held.
     TooManyViews,
     /// The session holds no view of that number.

@@ -110,13 +110,9 @@ impl Engine {
         let changes = self.table.apply(prepared);
         drop(self.ports.take_front(place));
         self.version = self.version.saturating_add(1);
-        let lost = self.views.refresh(
-            &self.table,
-            changes.as_slice(),
-            self.version,
-            room,
-            steps,
-        );
+        let lost = self
+            .views
+            .refresh(&self.table, changes.as_slice(), self.version, room, steps);
         Ok(applied(port, seq, lost))
     }
 }

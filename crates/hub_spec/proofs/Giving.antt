@@ -16,13 +16,18 @@ use Rattle.frame_types.specs.declared.reply.Body.{Body}
 use Rattle.frame_types.specs.declared.reply.Body.TheVariants as body
 use Rattle.frame_types.specs.declared.reply.Cause.TheVariants.{Unbuilt}
 use Rattle.frame_types.specs.declared.reply.Refusal.{Refusal}
+use Rattle.plan_check.specs.Plans.{checked}
+use Rattle.plan_check.specs.declared.refused.PlanFault.{PlanFault}
+use Rattle.plan_json.specs.Plans.{RawPlanData}
+use Rattle.plan_json.specs.Reading.{plan_of}
+use Rattle.plan_types.specs.declared.plan.Plan.{Plan}
 use Rattle.hub_spec.specs.Past.{PastStep}
 use Rattle.hub_spec.specs.Answers.{first_of, refused_if, refusals, grant, without_table, faulty_plan, faulty_schema, faulty_rows, full_table_for, lost_view, opened_answer, take_answer, window_of}
 use Rattle.hub_spec.specs.Bases.{delta_in, dirty}
 use Rattle.hub_spec.specs.Giving.{IsGiven, body_in, plain_in}
 use Rattle.hub_spec.specs.HeldViews.{HeldView, held_view, shown}
 use Rattle.hub_spec.specs.Histories.{choice_of, plenty, want, may_choose, takes_none}
-use Rattle.hub_spec.specs.Plans.{is_empty_plan, plan_asked, whole_plan}
+use Rattle.hub_spec.specs.Plans.{is_unbuilt, plan_asked, plan_checked, plan_read}
 use Rattle.hub_spec.specs.Ports.{schema as schema_made}
 use Rattle.hub_spec.specs.Reading.{read_batch, batch_asked}
 use Rattle.hub_spec.specs.Rows.{schema_or_none}
@@ -75,11 +80,16 @@ lost_wants (Some v) = by v.lost
     by (Some version) = refl
 
 plan_wants : (schema : SchemaData) (plan : RawData) → MayWant (faulty_plan (plan_asked schema plan))
-plan_wants schema plan = by (is_empty_plan plan)
+plan_wants schema plan = by (is_unbuilt plan) (plan_of plan)
   where
-    by : (empty : Bool) → MayWant (faulty_plan (if empty then Ok (whole_plan schema) else Err (bad_frame Unbuilt)))
-    by true = tt
-    by false = refl
+    checked_wants : (found : Result Plan PlanFault) → MayWant (faulty_plan (plan_checked found))
+    checked_wants (Ok good) = tt
+    checked_wants (Err why) = refl
+
+    by : (unbuilt : Bool) (read : Option RawPlanData) → MayWant (faulty_plan (if unbuilt then Err (bad_frame Unbuilt) else plan_read schema read))
+    by true read = refl
+    by false None = refl
+    by false (Some raw) = checked_wants (checked schema raw)
 
 -- ---- requests that take memory
 
@@ -116,11 +126,17 @@ window_wants past view first end (Some v) = refl
 
 opened_wants : (past : List PastStep) (session : ℕ) (plan : RawData) (bound : ℕ) (schema : SchemaData)
     → takes_none (ask.open_view plan bound) (opened_answer past session bound (plan_asked schema plan)) ≡ false
-opened_wants past session plan bound schema = by (is_empty_plan plan)
+opened_wants past session plan bound schema = by (is_unbuilt plan) (plan_of plan)
   where
-    by : (empty : Bool) → takes_none (ask.open_view plan bound) (opened_answer past session bound (if empty then Ok (whole_plan schema) else Err (bad_frame Unbuilt))) ≡ false
-    by true = refl
-    by false = refl
+    checked_wants : (found : Result Plan PlanFault) → takes_none (ask.open_view plan bound) (opened_answer past session bound (plan_checked found)) ≡ false
+    checked_wants (Ok good) = refl
+    checked_wants (Err why) = refl
+
+    by : (unbuilt : Bool) (read : Option RawPlanData)
+        → takes_none (ask.open_view plan bound) (opened_answer past session bound (if unbuilt then Err (bad_frame Unbuilt) else plan_read schema read)) ≡ false
+    by true read = refl
+    by false None = refl
+    by false (Some raw) = checked_wants (checked schema raw)
 
 abbrev pub TakesMemory : Ask → Type 0
 TakesMemory request = takes_none request body.Table ≡ false

@@ -1,9 +1,9 @@
 -- Worked histories: what the definitions say of them, computed.
-use Rattle.std.proofs.Common.{◌≡◌, ℕ, suc, zero, ℤ, pos, negsuc, Bool, true, false, List, [], ◌∷◌, Some, None, Err, refl}
+use Rattle.std.proofs.Common.{◌≡◌, ℕ, suc, zero, ℤ, pos, negsuc, Bool, true, false, List, [], ◌∷◌, length, Some, None, Err, refl}
 use Rattle.std.specs.Prelude.{codes}
 use Rattle.value_core.specs.Values.{value_order}
 use Rattle.value_core.specs.declared.value.Value.TheVariants.{Whole}
-use Rattle.cell_core.specs.RawData.{RawData, raw_null, raw_int, raw_list, raw_map, RawItems, no_raw_items, raw_item, no_raw_members, raw_member}
+use Rattle.cell_core.specs.RawData.{RawData, raw_null, raw_int, raw_words, raw_list, raw_map, RawItems, no_raw_items, raw_item, no_raw_members, raw_member}
 use Rattle.cell_core.specs.Schemas.{SchemaData}
 use Rattle.cell_core.specs.declared.cell.Cell.TheVariants.{Int}
 use Rattle.cell_core.specs.declared.cell.CellType.TheVariants as kind
@@ -29,7 +29,7 @@ use Rattle.delta_core.specs.declared.delta.Mark.{Mark}
 use Rattle.delta_core.specs.declared.delta.Put.{Put}
 use Rattle.frame_types.specs.Asks.{Ask}
 use Rattle.frame_types.specs.Asks as ask
-use Rattle.frame_types.specs.Refusals.{no_table, table_set, bad_schema, no_port, port_closed, too_many_ports, bad_rows, not_indexed, port_full, table_full, empty, bad_frame, history_full, too_many_views, no_view, view_lost, bad_window, memory}
+use Rattle.frame_types.specs.Refusals.{no_table, table_set, bad_schema, no_port, port_closed, too_many_ports, bad_rows, not_indexed, port_full, table_full, empty, bad_frame, bad_plan, plan_form, history_full, too_many_views, no_view, view_lost, bad_window, memory}
 use Rattle.frame_types.specs.ReplyData.{ReplyData}
 use Rattle.frame_types.specs.declared.reply.Body.{Body}
 use Rattle.frame_types.specs.declared.reply.Body.TheVariants as body
@@ -38,7 +38,10 @@ use Rattle.frame_types.specs.declared.request.FrameCause.TheVariants as frame
 use Rattle.view_spec.specs.Openings.{first_opening}
 use Rattle.view_spec.specs.Views.{Side, view}
 use Rattle.row_batch.specs.declared.batch.Pair.{Pair}
-use Rattle.hub_spec.specs.Plans.{whole_plan}
+use Rattle.plan_types.specs.declared.plan.Plan.{Plan}
+use Rattle.plan_json.specs.declared.words.PlanCause.TheVariants as plan
+use Rattle.plan_json.specs.declared.words.PlanPart.TheVariants.{Columns}
+use Rattle.hub_spec.specs.Ports.{numbers_below}
 use Rattle.hub_spec.specs.Room.{different}
 use Rattle.hub_spec.specs.Histories.{Entry, Choice, plenty, want, losing, answer, past_of, is_allowed, history_after, entry_of}
 
@@ -85,6 +88,9 @@ two_rows a b = raw_list (raw_item a (raw_item b no_raw_items))
 
 abbrev update : RawData → Ask
 update rows = ask.update 0 rows
+
+abbrev with_member : List ℕ → RawData → RawData
+with_member name d = raw_map (raw_member name d no_raw_members)
 
 abbrev open_all : Ask
 open_all = ask.open_view (raw_map no_raw_members) 10
@@ -308,11 +314,28 @@ pub second_view : answer roomy with_view (asks open_all) ≡ reply 6 1 (body.Ope
 unfolding value_order
 second_view = refl
 
-pub other_plan : answer roomy with_rows (asks (ask.open_view (raw_map (raw_member (codes "sort") (raw_list no_raw_items) no_raw_members)) 10)) ≡ reply 5 1 refused_unbuilt
-other_plan = refl
+pub grouped_plan : answer roomy with_rows (asks (ask.open_view (with_member (codes "group_by") (raw_list (raw_item (raw_words (codes "k")) no_raw_items))) 10)) ≡ reply 5 1 refused_unbuilt
+grouped_plan = refl
 
-pub other_plan_counts_in_its_session : answer roomy with_rows (by 1 (ask.open_view (raw_map (raw_member (codes "sort") (raw_list no_raw_items) no_raw_members)) 10) plenty) ≡ reply 1 1 refused_unbuilt
-other_plan_counts_in_its_session = refl
+pub refused_plan_counts_in_its_session
+    : answer roomy with_rows (by 1 (ask.open_view (with_member (codes "split_by") raw_null) 10) plenty) ≡ reply 1 1 refused_unbuilt
+refused_plan_counts_in_its_session = refl
+
+pub plan_of_no_member : answer roomy with_rows (asks (ask.open_view (with_member (codes "sorts") (raw_list no_raw_items)) 10)) ≡ reply 5 1 (body.Refused plan_form)
+plan_of_no_member = refl
+
+pub no_plan : answer roomy with_rows (asks (ask.open_view (raw_list no_raw_items) 10)) ≡ reply 5 1 (body.Refused plan_form)
+no_plan = refl
+
+-- what is left out or empty hides nothing
+pub plan_without_groups : answer roomy with_rows (asks (ask.open_view (with_member (codes "group_by") (raw_list no_raw_items)) 10))
+    ≡ reply 5 1 (body.Opened 0 (shows (shown_row (pos 1) (pos 7) ∷ shown_row (pos 2) (pos 5) ∷ [])) 0)
+unfolding value_order
+plan_without_groups = refl
+
+pub plan_of_an_unknown_column : answer roomy with_rows (asks (ask.open_view (with_member (codes "columns") (raw_list (raw_item (raw_words (codes "x")) no_raw_items))) 10))
+    ≡ reply 5 1 (body.Refused (bad_plan Columns plan.Unknown (One 0)))
+plan_of_an_unknown_column = refl
 
 pub view_not_given : answer roomy with_view (asks (ask.rows 1 0 2)) ≡ reply 6 1 (body.Refused no_view)
 view_not_given = refl
@@ -548,6 +571,18 @@ five = sets (pos 0) ∷ sets (pos 1) ∷ sets (pos 2) ∷ sets (pos 3) ∷ sets 
 
 abbrev shown_v : ℤ → ℤ → ShownRow
 shown_v key v = record { key = Row (Int key); mark = false; cells = (codes "v", Whole v) ∷ [] }
+
+-- all columns and all rows, by key
+abbrev whole_plan : SchemaData → Plan
+whole_plan schema = record {
+  columns = numbers_below (length schema.columns);
+  group_by = [];
+  split_by = [];
+  aggregates = [];
+  filters = record { list = []; every = true };
+  sorts = [];
+  expressions = [];
+}
 
 abbrev all_of : SchemaData → List Pair → Side
 all_of schema pairs = record { columns = schema.columns; plan = whole_plan schema; opening = first_opening (whole_plan schema); pairs = pairs }

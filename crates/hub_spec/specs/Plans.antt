@@ -1,29 +1,51 @@
 -- The plan that a request asks for.
-use Rattle.std.specs.Prelude.{[], length, Bool, true, false, Result, Ok, Err, if◌then◌else◌}
-use Rattle.cell_core.specs.RawData.{RawData, raw_map, no_raw_members}
+use Rattle.std.specs.Prelude.{codes, Bool, true, false, ◌||◌, Option, Some, None, Result, Ok, Err, if◌then◌else◌}
+use Rattle.cell_core.specs.RawData.{RawData, raw_list, raw_map, no_raw_items, no_raw_members, RawMembers, get_raw}
 use Rattle.cell_core.specs.Schemas.{SchemaData}
-use Rattle.frame_types.specs.Refusals.{bad_frame}
+use Rattle.frame_types.specs.Refusals.{bad_frame, bad_plan, plan_form}
 use Rattle.frame_types.specs.declared.reply.Cause.TheVariants.{Unbuilt}
 use Rattle.frame_types.specs.declared.reply.Refusal.{Refusal}
 use Rattle.plan_types.specs.declared.plan.Plan.{Plan}
-use Rattle.hub_spec.specs.Ports.{numbers_below}
+use Rattle.plan_json.specs.Plans.{RawPlanData}
+use Rattle.plan_json.specs.Reading.{plan_of}
+use Rattle.plan_check.specs.Plans.{checked}
+use Rattle.plan_check.specs.declared.refused.PlanFault.{PlanFault}
 
--- all columns and all rows, by key
-abbrev pub whole_plan : SchemaData → Plan
-whole_plan schema = record {
-  columns = numbers_below (length schema.columns);
-  group_by = [];
-  split_by = [];
-  aggregates = [];
-  filters = record { list = []; every = true };
-  sorts = [];
-  expressions = [];
-}
+-- ---- what isn't built yet
 
-abbrev pub is_empty_plan : RawData → Bool
-is_empty_plan (raw_map no_raw_members) = true
-is_empty_plan other = false
+-- there, and no empty list
+abbrev pub is_filled_list : Option RawData → Bool
+is_filled_list None = false
+is_filled_list (Some (raw_list no_raw_items)) = false
+is_filled_list (Some other) = true
 
--- the plan that a value stands for on a table of that schema, or why there is none; one other than `{}` isn't built yet
+-- there, and no empty object
+abbrev pub is_filled_object : Option RawData → Bool
+is_filled_object None = false
+is_filled_object (Some (raw_map no_raw_members)) = false
+is_filled_object (Some other) = true
+
+abbrev pub is_unbuilt_in : RawMembers → Bool
+is_unbuilt_in ms =
+    is_filled_list (get_raw (codes "group_by") ms)
+    || is_filled_list (get_raw (codes "split_by") ms)
+    || is_filled_object (get_raw (codes "aggregates") ms)
+
+-- groups, splits and aggregates aren't built yet
+abbrev pub is_unbuilt : RawData → Bool
+is_unbuilt (raw_map ms) = is_unbuilt_in ms
+is_unbuilt other = false
+
+-- ---- the plan
+
+abbrev pub plan_checked : Result Plan PlanFault → Result Plan Refusal
+plan_checked (Ok plan) = Ok plan
+plan_checked (Err why) = Err (bad_plan why.part why.cause why.at)
+
+abbrev pub plan_read : SchemaData → Option RawPlanData → Result Plan Refusal
+plan_read schema None = Err plan_form
+plan_read schema (Some raw) = plan_checked (checked schema raw)
+
+-- the plan that a value stands for on a table of that schema, or why there is none
 abbrev pub plan_asked : SchemaData → RawData → Result Plan Refusal
-plan_asked schema plan = if is_empty_plan plan then Ok (whole_plan schema) else Err (bad_frame Unbuilt)
+plan_asked schema plan = if is_unbuilt plan then Err (bad_frame Unbuilt) else plan_read schema (plan_of plan)

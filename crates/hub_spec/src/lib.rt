@@ -1,12 +1,13 @@
 //! What a history of requests is answered: the definitions that every claim of the engine rests on.
 //!
 //! `specs/` has, from below: steps with their replies (`Past`), the batch that a request asks
-//! for (`Reading`), ports and their batches (`Ports`), the table's rows (`Rows`), the views that are
-//! held (`HeldViews`), what was told of a view and touched since (`Bases`), the answer where memory is
-//! plenty (`Answers`), choices and legal histories (`Histories`), and runs (`Runs`). The only functions
-//! are laws: functions that do nothing, whose contracts say what holds of every history.
-//! `proofs/Worked.antt` computes answers of short ones.
-//! `Caller` is what a loop over requests asks of whatever answers them.
+//! for (`Reading`), the plan that a request asks for (`Plans`), ports and their batches (`Ports`), the
+//! table's rows (`Rows`), the views that are held (`HeldViews`), what was told of a view and touched
+//! since (`Bases`), the answer where memory is plenty (`Answers`), choices and legal histories
+//! (`Histories`), and runs (`Runs`). `proofs/Worked.antt` computes answers of short ones.
+//!
+//! `Caller` is what a loop over requests asks of whatever answers them. The other functions are laws:
+//! they do nothing, and their contracts say what holds of every history.
 #![tactic(auto)]
 
 ghost use Rattle.hub_spec.specs.Laws.{AppliedThenWaiting, AppliedInOrder, DeltasFold, RowsAreApplied, RefusalsChangeNothing};
@@ -24,7 +25,7 @@ pub fn batches_are_kept()
     ensures rows { RowsAreApplied }
 {}
 
-/// A refusal changes nothing but the session's count of requests. It does nothing, and its contract
+/// A step that is refused changes nothing but the session's count of requests. It does nothing, and its contract
 /// is the law.
 pub fn refusals_change_nothing()
     ensures { RefusalsChangeNothing }

@@ -109,9 +109,9 @@ quiet kept counts past d q h = record {
   made = ap is_none q.made ∙ h.made;
   views = h.views
       ∙ map_same (kept_view past) (kept_view (d ∷ past)) (views past) (λ k x lt.
-          let v = get_or (views past) k x in
-          let held = own_found (opened_count past) (views past) h.numbered k x lt in
-          kept_still past d v (record { before = held; after = ap (find (is_view v.session v.number)) q.views ∙ held; sides = q.sides v }) (q.other v.session v.number))
+      let v = get_or (views past) k x in
+      let held = own_found (opened_count past) (views past) h.numbered k x lt in
+      kept_still past d v (record { before = held; after = ap (find (is_view v.session v.number)) q.views ∙ held; sides = q.sides v }) (q.other v.session v.number))
       ∙ ap (map (kept_view (d ∷ past))) (sym q.views);
   size = h.size;
   opened = λ s lt. h.opened s lt ∙ sym (q.opened s);
@@ -225,10 +225,10 @@ rebased_views kept counts past d session number mark h made sides same counted b
   views = ap (map (rebased_data session number mark)) h.views ∙ map-map (rebased_data session number mark) (kept_view past) (views past)
       ∙ map_same (λ v. rebased_data session number mark (kept_view past v)) (kept_view (d ∷ past)) (views past)
       (λ k x lt.
-          let v = get_or (views past) k x in
-          let held = own_found (opened_count past) (views past) h.numbered k x lt in
-          rebased_one past d session number mark v (record { before = held; after = ap (find (is_view v.session v.number)) same ∙ held; sides = sides v })
-          (bases v.session v.number) marks)
+      let v = get_or (views past) k x in
+      let held = own_found (opened_count past) (views past) h.numbered k x lt in
+      rebased_one past d session number mark v (record { before = held; after = ap (find (is_view v.session v.number)) same ∙ held; sides = sides v })
+      (bases v.session v.number) marks)
       ∙ ap (map (kept_view (d ∷ past))) (sym same);
   size = h.size;
   opened = λ s lt. h.opened s lt ∙ sym (counted s);

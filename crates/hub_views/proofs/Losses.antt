@@ -304,8 +304,7 @@ refreshed v after past d at before lost was now changes h renewed counts moved i
     let alike : All (λ v. is_lost_in lost v ≡ is_lost_in (gone vs kept_data) v) vs =
     λ k x lt.
     let test : ℕ × ℕ → Bool = λ w. is_view w.0 w.1 (get_or vs k x) in
-    sym (list_any-IsPermutation test (losses us ws) lost moved) ∙ ap (list_any test) are in
-    (
+    sym (list_any-IsPermutation test (losses us ws) lost moved) ∙ ap (list_any test) are in (
       record {
         made = is.made;
         views = views_after (d ∷ past) at lost vs kept_data follow (named_alike (gone vs kept_data) lost vs kept_data alike (gone_named (d ∷ past) at (held.opened_count past) vs kept_data h.0.numbered follow))

@@ -6,7 +6,6 @@ use Rattle.std.proofs.lemmas.List.Elements.{All-nil, All-push}
 use Rattle.cell_core.specs.RawData.{RawData}
 use Rattle.cell_core.specs.Schemas.{SchemaData}
 use Rattle.plan_types.specs.declared.plan.Plan.{Plan}
-use Rattle.flat_show.specs.Plans.{IsFlatPlan}
 use Rattle.view_types.specs.declared.key.ViewKey.{ViewKey}
 use Rattle.view_types.specs.declared.shown.Shown.{Shown}
 use Rattle.delta_core.specs.DirtySets.{dirty_of}
@@ -15,8 +14,7 @@ use Rattle.delta_core.specs.declared.touched.Touch.{Touch}
 use Rattle.table_core.specs.Tables.{TableData}
 use Rattle.frame_types.specs.Asks.{Ask}
 use Rattle.frame_types.specs.Asks as ask
-use Rattle.frame_types.specs.Refusals.{bad_frame, bad_window, memory, no_view, too_many_views}
-use Rattle.frame_types.specs.declared.reply.Cause.TheVariants.{Unbuilt}
+use Rattle.frame_types.specs.Refusals.{bad_window, memory, no_view, too_many_views}
 use Rattle.frame_types.specs.declared.reply.Body.{Body}
 use Rattle.frame_types.specs.declared.reply.Body.TheVariants as body
 use Rattle.frame_types.specs.declared.reply.Refusal.{Refusal}
@@ -26,8 +24,7 @@ use Rattle.hub_spec.specs.Giving.{Gives, plain_in}
 use Rattle.hub_spec.specs.HeldViews.{held_view, views}
 use Rattle.hub_spec.specs.Histories.{choice_of, plenty}
 use Rattle.hub_spec.specs.Limits.{max_views}
-use Rattle.hub_spec.specs.Plans.{is_empty_plan, plan_asked, whole_plan}
-use Rattle.hub_spec.specs.Ports.{numbers_below}
+use Rattle.hub_spec.specs.Plans.{plan_asked}
 use Rattle.hub_spec.specs.Ports as history
 use Rattle.hub_spec.specs.Rows.{no_schema, schema_or_none}
 use Rattle.hub_spec.proofs.Giving.{TakesMemory, may_want, plain_given}
@@ -38,6 +35,7 @@ use Rattle.hub_views.specs.declared.live.LiveView.{LiveView}
 use Rattle.hub_views.specs.declared.view.View.{View}
 use Rattle.hub_views.specs.declared.views.Views.{Views}
 use Rattle.hub_views.proofs.Asking.{asked_refused, close_plain, count_is, rows_give, rows_plain, take_gives, take_stays}
+use Rattle.hub_views.proofs.FlatPlans.{not_wanted}
 use Rattle.hub_views.proofs.KeptViews.{filtered_views, views_stay}
 use Rattle.hub_views.proofs.Lists.{filter-map, find-map}
 use Rattle.hub_views.proofs.Opening.{open_plain}
@@ -160,14 +158,6 @@ left_gives v after t past session closed h count counts dropped =
 read_for : (t : TableData) (number : ℕ) (past : List PastStep) (asked : RawData) → HoldsTable t number past → plan_asked (schema_or_none past) asked ≡ plan_asked t.schema asked
 read_for t number past asked h = ap (λ (o : Option SchemaData). plan_asked (unwrap_or o no_schema) asked) h.schema
 
--- why there is no plan is never want of memory
-not_wanted : (schema : SchemaData) (asked : RawData) (why : Refusal) → plan_asked schema asked ≡ Err why → choice_of (body.Refused why) ≡ plenty
-not_wanted schema asked why is = by (is_empty_plan asked) is
-  where
-    by : (empty : Bool) → (if empty then Ok (whole_plan schema) else Err (bad_frame Unbuilt)) ≡ Err why → choice_of (body.Refused why) ≡ plenty
-    by true h = absurd (cc)
-    by false h = let same : bad_frame Unbuilt ≡ why = cc in ap (λ w. choice_of (body.Refused w)) (sym same)
-
 pub plan_is_refused : (v : Views) (t : TableData) (past : List PastStep) (session bound number : ℕ) (asked : RawData) (why : Refusal) → HoldsViews v t past → HoldsTable t number past
     → plan_asked t.schema asked ≡ Err why → Gives past session (ask.open_view asked bound) (body.Refused why) (HoldsViews v t)
 plan_is_refused v t past session bound number asked why h table is =
@@ -197,22 +187,3 @@ opened_gives v after t past session bound number asked plan answer h table is fe
           (plain_open v t past session bound number asked plan false h table is few ∙ ap (opened_answer past session bound) (sym read) ∙ sym (added.right asked read));
       holds = added.holds asked read;
     }
-
--- such a plan is flat, and its columns are the table's
-numbers_within : (n m : ℕ) → n ≤ m → All (λ i. i < m) (numbers_below n)
-numbers_within zero m le = All-nil (λ i. i < m)
-numbers_within (suc n) m le = All-push (λ i. i < m) (numbers_below n) n (numbers_within n m (omega arith)) (omega arith)
-
-pub flat_asked : (schema : SchemaData) (asked : RawData) (plan : Plan) → Ok plan ≡ plan_asked schema asked → IsFlatPlan schema.columns plan
-flat_asked schema asked plan is = by (is_empty_plan asked) is
-  where
-    whole : IsFlatPlan schema.columns (whole_plan schema)
-    whole = record {
-      flat = refl;
-      whole = refl;
-      within = numbers_within (length schema.columns) (length (schema.columns ++ [])) (omega (arith, ap length (append-nil schema.columns)));
-    }
-
-    by : (empty : Bool) → Ok plan ≡ (if empty then Ok (whole_plan schema) else Err (bad_frame Unbuilt)) → IsFlatPlan schema.columns plan
-    by true h = let same : plan ≡ whole_plan schema = cc in subst (IsFlatPlan schema.columns) (sym same) whole
-    by false h = absurd (cc)

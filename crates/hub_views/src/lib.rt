@@ -5,8 +5,8 @@
 //! changes of the table's, on `delta_core`, and on `hub_spec`, whose definitions say what each request is answered
 //! after a history of requests. Its callers may rely on this: for every history that `Views` holds
 //! (`HoldsViews` of `specs/Keeping.antt`) each call answers what that history is answered, and holds the
-//! history with that step. What they keep of a view is their own. A view of which an update finds no memory
-//! is lost, and no other.
+//! history with that step. What they keep of a view is their own. The views that an update loses are named; that
+//! these are those alone of which it found no memory is no clause.
 #![tactic(auto)]
 
 mod list;

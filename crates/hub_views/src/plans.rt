@@ -1,12 +1,16 @@
-ghost use Rattle.std.specs.Prelude.{◌≡◌, ◌<◌, All, IfOk};
-ghost use Rattle.cell_core.specs.RawData.{raw_map};
-ghost use Rattle.cell_core.specs.RawViews.{map_view, raw_view};
-ghost use Rattle.hub_spec.specs.Plans.{is_empty_plan, plan_asked, whole_plan};
+ghost use Rattle.std.specs.Prelude.{◌≡◌, IfOk, Some, option_map};
+ghost use Rattle.cell_core.specs.RawData.{raw_list, raw_map};
+ghost use Rattle.cell_core.specs.RawViews.{list_view, map_view, raw_view};
+ghost use Rattle.plan_json.specs.Plans.{raw_plan_view};
+ghost use Rattle.plan_check.specs.Plans.{checked};
+ghost use Rattle.hub_spec.specs.Plans.{is_filled_list, is_filled_object, is_unbuilt, is_unbuilt_in, plan_asked, plan_checked};
 
 use crate::refused;
-use cell_core::{Listed, Memory, Raw, RawMap, Schema};
+use cell_core::{Memory, Raw, RawList, RawMap, Schema};
 use frame_types::Refusal;
-use plan_types::{Filters, Plan};
+use plan_check::{PlanRefused, check};
+use plan_json::{PlanFormRefused, RawPlan, plan_member, read_plan};
+use plan_types::Plan;
 use std::alloc::Global;
 
 /// The plan that a value stands for on a table of that schema, or why there is none. Want of memory is the only other
@@ -18,46 +22,72 @@ pub fn plan_asked(
 ) -> Result<Result<Plan, Refusal>, Memory>
     ensures { IfOk result (λ read. read ≡ plan_asked schema.now (raw_view plan.now)) }
 {
-    if is_empty_plan(plan) {
-        return Ok(Ok(whole_plan(alloc, schema)?));
+    if is_unbuilt(plan) {
+        return Ok(Err(refused::unbuilt()));
     }
-    Ok(Err(refused::unbuilt()))
+    match read_plan(alloc, plan) {
+        Ok(raw) => checked(alloc, schema, &raw),
+        Err(PlanFormRefused::Form) => Ok(Err(refused::plan_form())),
+        Err(PlanFormRefused::Memory) => Err(Memory),
+    }
 }
 
-/// All columns and all rows, by key.
-fn whole_plan(alloc: Global, schema: &Schema) -> Result<Plan, Memory>
-    ensures { IfOk result (λ plan. plan ≡ whole_plan schema.now) }
+fn checked(alloc: Global, schema: &Schema, raw: &RawPlan) -> Result<Result<Plan, Refusal>, Memory>
+    ensures { IfOk result (λ read. read ≡ plan_checked (checked schema.now (raw_plan_view raw.now))) }
 {
-    let mut columns = Listed::new(alloc);
-    for number in 0..schema.columns().len() {
-        columns.push(number)?;
+    match check(alloc, schema, raw) {
+        Ok(plan) => Ok(Ok(plan)),
+        Err(PlanRefused::Bad { part, cause, at }) => Ok(Err(refused::bad_plan(part, cause, at))),
+        Err(PlanRefused::Memory) => Err(Memory),
     }
-    Ok(Plan {
-        columns,
-        group_by: Listed::new(alloc),
-        split_by: Listed::new(alloc),
-        aggregates: Listed::new(alloc),
-        filters: Filters {
-            list: Listed::new(alloc),
-            every: true,
-        },
-        sorts: Listed::new(alloc),
-        expressions: Listed::new(alloc),
-    })
 }
 
-/// Whether a plan is `{}`.
-fn is_empty_plan(plan: &Raw) -> bool
-    ensures { result ≡ is_empty_plan (raw_view plan.now) }
+/// Whether a plan has groups, splits or aggregates.
+fn is_unbuilt(plan: &Raw) -> bool
+    ensures { result ≡ is_unbuilt (raw_view plan.now) }
 {
     match plan {
-        Raw::Map(members) => has_no_members(members),
+        Raw::Map(members) => is_unbuilt_in(members),
         _ => false,
     }
 }
 
-fn has_no_members(map: &RawMap) -> bool
-    ensures { result ≡ is_empty_plan (raw_map (map_view map.now)) }
+fn is_unbuilt_in(members: &RawMap) -> bool
+    ensures { result ≡ is_unbuilt_in (map_view members.now) }
 {
-    map.entries().is_empty()
+    is_filled_list(plan_member(members, "group_by"))
+        || is_filled_list(plan_member(members, "split_by"))
+        || is_filled_object(plan_member(members, "aggregates"))
+}
+
+fn is_filled_list(value: Option<&Raw>) -> bool
+    ensures { result ≡ is_filled_list (option_map (λ v. raw_view v.now) value.entry) }
+{
+    match value {
+        Some(Raw::List(list)) => has_items(list),
+        Some(_) => true,
+        None => false,
+    }
+}
+
+fn has_items(list: &RawList) -> bool
+    ensures { result ≡ is_filled_list (Some (raw_list (list_view list.now))) }
+{
+    !list.as_slice().is_empty()
+}
+
+fn is_filled_object(value: Option<&Raw>) -> bool
+    ensures { result ≡ is_filled_object (option_map (λ v. raw_view v.now) value.entry) }
+{
+    match value {
+        Some(Raw::Map(map)) => has_members(map),
+        Some(_) => true,
+        None => false,
+    }
+}
+
+fn has_members(map: &RawMap) -> bool
+    ensures { result ≡ is_filled_object (Some (raw_map (map_view map.now))) }
+{
+    !map.entries().is_empty()
 }

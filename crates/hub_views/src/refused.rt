@@ -5,6 +5,7 @@ ghost use Rattle.frame_types.specs.declared.reply.Cause.TheVariants as cause;
 use crate::views::MAX_VIEWS;
 use cell_core::Numbers;
 use frame_types::{Cause, Refusal};
+use plan_json::{PlanCause, PlanPart};
 
 fn refused(code: u8, cause: Cause, at: Numbers) -> Refusal
     ensures { result ≡ record { code = code; cause = cause; at = at } }
@@ -12,11 +13,25 @@ fn refused(code: u8, cause: Cause, at: Numbers) -> Refusal
     Refusal { code, cause, at }
 }
 
-/// The plan isn't built yet.
+/// Groups, splits and aggregates aren't built yet.
 pub fn unbuilt() -> Refusal
     ensures { result ≡ refusals.bad_frame cause.Unbuilt }
 {
     refused(1, Cause::Unbuilt, Numbers::Zero)
+}
+
+/// The plan is no object of a plan's members.
+pub fn plan_form() -> Refusal
+    ensures { result ≡ refusals.plan_form }
+{
+    refused(13, Cause::PlanForm, Numbers::Zero)
+}
+
+/// A member of the plan is refused.
+pub fn bad_plan(part: PlanPart, cause: PlanCause, at: Numbers) -> Refusal
+    ensures { result ≡ refusals.bad_plan part cause at }
+{
+    refused(13, Cause::Plan(part, cause), at)
 }
 
 /// 16 views are held.

@@ -67,6 +67,9 @@ impl KeptView for PlainFlat {
         touched_now: &mut Touched,
         steps: &mut Steps<L>,
     ) -> Result<(), Memory> {
+        if !is_flat_plan(&self.plan, table) {
+            return Err(Memory);
+        }
         let now = show_keyed(alloc, &self.plan, table, steps)?;
         *touched_now = touched(alloc, &self.shown, &now)?;
         self.shown = now;
@@ -90,8 +93,25 @@ impl KeptView for PlainFlat {
     ghost shows = { shows_plain };
 }
 
-ghost use Rattle.std.specs.Prelude.{◌≡◌, ◌-◌, IfOk, drop, map, take};
+ghost use Rattle.std.specs.Prelude.{◌≡◌, ◌-◌, ◌<◌, ◌↔◌, All, IfOk, IsTrue, drop, map, take};
+ghost use Rattle.flat_show.specs.Plans.{IsFlatPlan};
 ghost use Rattle.view_spec.specs.declared.placed.PlacedRow.{PlacedRow as PlacedData};
+
+/// Whether a plan is one of a flat view without splits over a table's columns.
+fn is_flat_plan(plan: &Plan, table: &Table) -> bool
+    ensures { IsTrue result ↔ IsFlatPlan table.now.schema.columns plan.now }
+{
+    let count = table.schema().columns().len() + plan.expressions.as_slice().len();
+    plan.group_by.as_slice().is_empty()
+        && plan.split_by.as_slice().is_empty()
+        && are_below(count, plan.columns.as_slice())
+}
+
+fn are_below(count: usize, numbers: &[usize]) -> bool
+    ensures { IsTrue result ↔ All (λ n. n < count) numbers.now }
+{
+    numbers.iter().all(|number| *number < count)
+}
 
 /// Copies of the rows at positions from `from` up to and without `to`.
 fn rows_between(

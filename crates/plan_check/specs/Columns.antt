@@ -14,10 +14,10 @@ use Rattle.row_cells.specs.Rows.{read_each}
 use Rattle.plan_json.specs.declared.named.NamedText.{NamedText}
 use Rattle.plan_check.specs.Faults.{fault, found, unless, and_then, at_most}
 use Rattle.plan_check.specs.declared.columns.ColumnPlace.{ColumnPlace}
-use Rattle.plan_check.specs.declared.refused.PlanCause.TheVariants as cause
+use Rattle.plan_json.specs.declared.words.PlanCause.TheVariants as cause
 use Rattle.plan_check.specs.declared.refused.PlanFault.{PlanFault}
-use Rattle.plan_check.specs.declared.refused.PlanPart.{PlanPart}
-use Rattle.plan_check.specs.declared.refused.PlanPart.TheVariants as part
+use Rattle.plan_json.specs.declared.words.PlanPart.{PlanPart}
+use Rattle.plan_json.specs.declared.words.PlanPart.TheVariants as part
 
 -- the schema's columns, and then the expressions'
 abbrev pub expression_column : Expression → Column

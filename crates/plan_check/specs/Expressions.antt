@@ -21,10 +21,10 @@ use Rattle.row_cells.specs.Rows.{read_each}
 use Rattle.plan_json.specs.declared.named.NamedText.{NamedText}
 use Rattle.plan_check.specs.Faults.{fault, unless, and_then, at_most}
 use Rattle.plan_check.specs.Trees.{tree_of}
-use Rattle.plan_check.specs.declared.refused.PlanCause.{PlanCause}
-use Rattle.plan_check.specs.declared.refused.PlanCause.TheVariants as cause
+use Rattle.plan_json.specs.declared.words.PlanCause.{PlanCause}
+use Rattle.plan_json.specs.declared.words.PlanCause.TheVariants as cause
 use Rattle.plan_check.specs.declared.refused.PlanFault.{PlanFault}
-use Rattle.plan_check.specs.declared.refused.PlanPart.TheVariants as part
+use Rattle.plan_json.specs.declared.words.PlanPart.TheVariants as part
 
 -- the most expressions of a plan
 abbrev pub max_expressions : ℕ

@@ -3,9 +3,9 @@ use Rattle.std.specs.Prelude.{◌≡◌, ℕ, nat_lt, List, length, Bool, Option
 use Rattle.cell_core.specs.declared.schema.Numbers.{Numbers}
 use Rattle.cell_core.specs.declared.schema.Numbers.TheVariants.{One}
 use Rattle.plan_types.specs.declared.plan.Plan.{Plan}
-use Rattle.plan_check.specs.declared.refused.PlanPart.{PlanPart}
-use Rattle.plan_check.specs.declared.refused.PlanCause.{PlanCause}
-use Rattle.plan_check.specs.declared.refused.PlanCause.TheVariants as cause
+use Rattle.plan_json.specs.declared.words.PlanPart.{PlanPart}
+use Rattle.plan_json.specs.declared.words.PlanCause.{PlanCause}
+use Rattle.plan_json.specs.declared.words.PlanCause.TheVariants as cause
 use Rattle.plan_check.specs.declared.refused.PlanFault.{PlanFault}
 use Rattle.plan_check.specs.declared.refused.PlanRefused.{PlanRefused}
 use Rattle.plan_check.specs.declared.refused.PlanRefused.TheVariants as refused

@@ -22,9 +22,9 @@ use Rattle.plan_check.specs.Faults.{fault, found, unless, and_then, at_most}
 use Rattle.plan_check.specs.declared.columns.ColumnPlace.{ColumnPlace}
 use Rattle.plan_check.specs.declared.filters.Operator.{Operator}
 use Rattle.plan_check.specs.declared.filters.Operator.TheVariants as operator
-use Rattle.plan_check.specs.declared.refused.PlanCause.TheVariants as cause
+use Rattle.plan_json.specs.declared.words.PlanCause.TheVariants as cause
 use Rattle.plan_check.specs.declared.refused.PlanFault.{PlanFault}
-use Rattle.plan_check.specs.declared.refused.PlanPart.TheVariants as part
+use Rattle.plan_json.specs.declared.words.PlanPart.TheVariants as part
 
 -- ---- operators
 

@@ -1,5 +1,4 @@
 pub mod Kinds
-pub mod Words
 pub mod Faults
 pub mod Trees
 pub mod Expressions

@@ -7,10 +7,9 @@ ghost use Rattle.plan_check.specs.Columns.{aggregate_at, aggregates_of, all_colu
 ghost use Rattle.plan_check.specs.Columns.{number_at, numbers_from, numbers_of, place_named, shown_of, splits_of};
 
 use crate::fault::{Checked, fault_at, found, too_many};
-use crate::refused::{PlanCause, PlanPart};
 use agg_core::takes;
 use cell_core::{CellType, Column, Copies, Listed, Memory, Schema, Text, Texts};
-use plan_json::NamedText;
+use plan_json::{NamedText, PlanCause, PlanPart};
 use plan_types::{AggName, Expression, Named, NamedList, Numbered};
 use std::alloc::Global;
 

@@ -7,15 +7,15 @@ ghost use Rattle.row_cells.specs.Rows.{read_each};
 ghost use Rattle.plan_check.specs.Expressions.{expression, expression_at, expressions_of, kind_answer, parse_answer, parse_cause};
 ghost use Rattle.plan_check.specs.Expressions.{parsed, typing_cause};
 ghost use Rattle.plan_check.specs.Faults.{and_then, fault};
-ghost use Rattle.plan_check.specs.declared.refused.PlanPart.TheVariants as part;
+ghost use Rattle.plan_json.specs.declared.words.PlanPart.TheVariants as part;
 
 use crate::fault::{Checked, fault_at, too_many};
-use crate::refused::{PlanCause, PlanFault, PlanPart};
+use crate::refused::PlanFault;
 use crate::trees::check_tree;
 use cell_core::{Copies, Listed, MAX_NAME, Memory, Numbers, Schema, Text};
 use expr_parse::{ParseCause, ParseRefused, parse};
 use expr_spec::{TreeCause, TreeRefused};
-use plan_json::NamedText;
+use plan_json::{NamedText, PlanCause, PlanPart};
 use plan_types::{Expression, Expressions, Tree};
 use std::alloc::Global;
 

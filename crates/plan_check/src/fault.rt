@@ -1,10 +1,11 @@
 ghost use Rattle.std.specs.Prelude.{◌≡◌};
 ghost use Rattle.cell_core.specs.declared.schema.Numbers.TheVariants.{One};
 ghost use Rattle.plan_check.specs.Faults.{fault, found};
-ghost use Rattle.plan_check.specs.declared.refused.PlanCause.TheVariants as cause;
+ghost use Rattle.plan_json.specs.declared.words.PlanCause.TheVariants as cause;
 
-use crate::refused::{PlanCause, PlanFault, PlanPart};
+use crate::refused::PlanFault;
 use cell_core::Numbers;
+use plan_json::{PlanCause, PlanPart};
 
 /// What a part of a plan is, or its first fault.
 pub(crate) type Checked<T> = Result<T, PlanFault>;

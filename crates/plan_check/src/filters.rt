@@ -8,12 +8,12 @@ ghost use Rattle.plan_check.specs.Filters.{filters_of, is_left_out, is_words, op
 
 use crate::columns::{ColumnPlace, known};
 use crate::fault::{Checked, fault_at, found, too_many};
-use crate::refused::{PlanCause, PlanFault, PlanPart};
+use crate::refused::PlanFault;
 use cell_core::{
     Cell, CellType, Cells, Column, Copies, Listed, MAX_TEXT, Memory, Numbers, Raw, Text,
 };
 use json_rows::cell_of;
-use plan_json::RawFilter;
+use plan_json::{PlanCause, PlanPart, RawFilter};
 use plan_types::{Filter, FilterList, FilterTest};
 use std::alloc::Global;
 

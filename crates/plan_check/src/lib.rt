@@ -24,5 +24,5 @@ mod typing;
 pub use expr_spec::{TreeCause, TreeRefused};
 pub use laws::texts_are_read;
 pub use plan::check;
-pub use refused::{PlanCause, PlanFault, PlanPart, PlanRefused};
+pub use refused::{PlanFault, PlanRefused};
 pub use trees::check_tree;

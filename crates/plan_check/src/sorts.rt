@@ -8,10 +8,9 @@ ghost use Rattle.plan_check.specs.Sorts.{sorts_of};
 
 use crate::columns::{ColumnPlace, known};
 use crate::fault::{Checked, fault_at, found, too_many};
-use crate::refused::{PlanCause, PlanPart};
 use agg_core::{ResultType, default_aggregate, result_type};
 use cell_core::{CellType, Column, Direction, Listed, Memory, Text};
-use plan_json::RawSort;
+use plan_json::{PlanCause, PlanPart, RawSort};
 use plan_types::{AggName, Named, Sort, Sorts};
 use std::alloc::Global;
 

@@ -1,6 +1,6 @@
 ghost use Rattle.std.specs.Prelude.{◌≡◌, IfOk, IfErr, Some, codes, map, option_map};
 ghost use Rattle.cell_core.specs.RawData.{get_raw};
-ghost use Rattle.cell_core.specs.RawViews.{raw_view};
+ghost use Rattle.cell_core.specs.RawViews.{map_view, raw_view};
 ghost use Rattle.plan_json.specs.Members.{members_data};
 ghost use Rattle.plan_json.specs.Plans.{filter_view, raw_plan_view};
 ghost use Rattle.plan_json.specs.Reading.{RefusesForm, are_members, filter_of, if_given, is_member, list_of, names_of, or_empty, plan_in, plan_of, sort_of, text_of, texts_of};
@@ -9,7 +9,7 @@ use crate::forms::{Members, filters, named_texts, names, sorts, text};
 use crate::named::NamedTexts;
 use crate::plan::{RawFilters, RawPlan, RawSorts};
 use crate::refused::PlanFormRefused;
-use cell_core::{Listed, Memory, Raw, Text, Texts};
+use cell_core::{Listed, Memory, Raw, RawMap, Text, Texts};
 use std::alloc::Global;
 
 /// Reads a plan: an object in which each member may be left out. Nothing in it is judged but its form.
@@ -101,6 +101,13 @@ fn plan_in(alloc: Global, members: &Members) -> Result<Option<RawPlan>, Memory>
         filter_op,
         sort,
     }))
+}
+
+/// The value of a plan's member, where the object has one of that name.
+pub fn plan_member<'m>(plan: &'m RawMap, name: &str) -> Option<&'m Raw>
+    ensures { option_map (λ value. raw_view value.now) result ≡ get_raw name.now (map_view plan.now) }
+{
+    member(plan.entries(), name)
 }
 
 /// The value of the member of that name.

@@ -4,7 +4,8 @@ use Rattle.cell_core.specs.RawViews.{raw_view}
 use Rattle.cell_core.specs.Schemas.{SchemaData}
 use Rattle.frame_types.specs.Asks as ask
 use Rattle.hub_spec.specs.Plans.{plan_asked}
-use Rattle.hub_views.proofs.Told.{flat_asked, open_is_full, opened_gives, plan_is_refused, views_are_wanted}
+use Rattle.hub_views.proofs.FlatPlans.{flat_asked}
+use Rattle.hub_views.proofs.Told.{open_is_full, opened_gives, plan_is_refused, views_are_wanted}
 use Rattle.hub_views.proofs.views.Views.open.Goals as goal
 
 pub returns-in-Ok-Err-clause-gives : goal.returns-in-Ok-Err-clause-gives
