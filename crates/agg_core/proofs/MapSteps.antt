@@ -1,11 +1,10 @@
 -- What the ordered map's calls make of counted cells, where the map compares by any function that is the order of cells.
-use Rattle.std.proofs.Common.{◌≡◌, ℕ, suc, ◌+◌, ◌<◌, List, Some, None, All, refl, sym, ap, ◌∙◌, subst, add-one}
-use Rattle.std.specs.declared.cmp.Ordering.{Ordering}
+use Rattle.std.proofs.Common.{◌≡◌, ℕ, suc, ◌+◌, ◌<◌, List, Some, None, All, refl, sym, ap, ◌∙◌, add-one}
 use Rattle.std.specs.BTreeMap.{insert_entry, is_at}
 use Rattle.std.specs.List.Sorted.{IsStrictlySortedBy}
 use Rattle.std.specs.Map.{keys_of, values_of, lookup, set_value, remove_entry}
 use Rattle.std.specs.Set.{remove_key}
-use Rattle.cell_core.specs.Cells.{cell_order, same_cell}
+use Rattle.cell_core.specs.Cells.{same_cell}
 use Rattle.cell_core.specs.declared.cell.Cell.{Cell}
 use Rattle.cell_core.specs.contracts.cell.CellOrd.TheImpl.{ghosts}
 use Rattle.agg_core.specs.Bags.{repeated}

@@ -1,5 +1,6 @@
 -- Which columns an aggregate takes, and the type of its values.
-use Rattle.std.specs.Prelude.{Bool, true, false, IsTrue}
+use Rattle.std.specs.Prelude.{ℕ, nat_eq, List, map, Bool, true, false, IsTrue, unwrap_or}
+use Rattle.std.specs.Map.{lookup}
 use Rattle.cell_core.specs.Limits.{is_integer}
 use Rattle.cell_core.specs.declared.cell.Cell.{Cell}
 use Rattle.cell_core.specs.declared.cell.Cell.TheVariants as cell
@@ -7,6 +8,7 @@ use Rattle.cell_core.specs.declared.cell.CellType.{CellType}
 use Rattle.cell_core.specs.declared.cell.CellType.TheVariants as kinds
 use Rattle.plan_types.specs.declared.aggregate.AggName.{AggName}
 use Rattle.plan_types.specs.declared.aggregate.AggName.TheVariants as name
+use Rattle.plan_types.specs.declared.plan.Named.{Named}
 use Rattle.agg_core.specs.declared.types.ResultType.{ResultType}
 use Rattle.agg_core.specs.declared.types.ResultType.TheVariants as result
 
@@ -59,6 +61,10 @@ default_aggregate kinds.Boolean = name.Count
 default_aggregate kinds.Date = name.Count
 default_aggregate kinds.Moment = name.Count
 default_aggregate kinds.Words = name.Count
+
+-- the aggregate that is named for column i, and else that of its type
+abbrev pub aggregate_for : List Named → ℕ → CellType → AggName
+aggregate_for aggregates i kind = unwrap_or (lookup (nat_eq i) (map (λ (n : Named). (n.column, n.aggregate)) aggregates)) (default_aggregate kind)
 
 -- null, or a cell of a type that the aggregate takes, and a whole number in range
 abbrev pub IsTaken : AggName → Cell → Type 0

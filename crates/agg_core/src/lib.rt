@@ -28,4 +28,6 @@ mod walk;
 pub use aggregate::Aggregate;
 pub use any::AnyAggregate;
 pub use laws::{fractions_are_lowest, sums_are_small};
-pub use types::{ResultType, default_aggregate, of_none, result_type, takes};
+pub use types::{
+    ResultType, aggregate_for, default_aggregate, is_numeric, of_none, result_type, takes,
+};

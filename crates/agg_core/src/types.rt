@@ -1,9 +1,9 @@
 ghost use Rattle.std.specs.Prelude.{◌≡◌, []};
 ghost use Rattle.agg_core.specs.Aggregates.{aggregate};
-ghost use Rattle.agg_core.specs.Types.{default_aggregate, is_numeric, result_type, takes};
+ghost use Rattle.agg_core.specs.Types.{aggregate_for, default_aggregate, is_numeric, result_type, takes};
 
 use cell_core::{CellType, Value};
-use plan_types::AggName;
+use plan_types::{AggName, Named};
 
 /// The type of an aggregate's values.
 #[derive(Clone, Copy, Debug, Drop, PartialEq, Eq)]
@@ -28,7 +28,8 @@ pub fn takes(name: AggName, kind: CellType) -> bool
     }
 }
 
-fn is_numeric(kind: CellType) -> bool
+/// Whether a column has whole numbers.
+pub fn is_numeric(kind: CellType) -> bool
     ensures { result ≡ is_numeric kind }
 {
     matches!(kind, CellType::Integer)
@@ -56,6 +57,18 @@ pub fn default_aggregate(kind: CellType) -> AggName
         return AggName::Sum;
     }
     AggName::Count
+}
+
+/// The aggregate that is named for column `column`, and else that of its type.
+pub fn aggregate_for(aggregates: &[Named], column: usize, kind: CellType) -> AggName
+    ensures { result ≡ aggregate_for aggregates.now column kind }
+{
+    for named in aggregates {
+        if named.column == column {
+            return named.aggregate;
+        }
+    }
+    default_aggregate(kind)
 }
 
 /// An aggregate of no cells: a count is 0 there, and any other is null.

@@ -19,17 +19,17 @@ use Rattle.delta_core.proofs.Rests.{same_ascending}
 
 -- ---- members
 
-or_comm : (a b : Bool) → (a || b) ≡ (b || a)
+pub or_comm : (a b : Bool) → (a || b) ≡ (b || a)
 or_comm true true = refl
 or_comm true false = refl
 or_comm false true = refl
 or_comm false false = refl
 
-or_assoc : (a b c : Bool) → ((a || b) || c) ≡ (a || (b || c))
+pub or_assoc : (a b c : Bool) → ((a || b) || c) ≡ (a || (b || c))
 or_assoc true b c = refl
 or_assoc false b c = refl
 
-or_again : (a b : Bool) → (a || b) ≡ ((a || b) || a)
+pub or_again : (a b : Bool) → (a || b) ≡ ((a || b) || a)
 or_again true b = refl
 or_again false true = refl
 or_again false false = refl

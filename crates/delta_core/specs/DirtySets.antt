@@ -1,5 +1,5 @@
 -- The keys that steps touched since some mark.
-use Rattle.std.specs.Prelude.{ℕ, nat_lt, List, [], ◌∷◌, length, fold, Bool, true, false, if◌then◌else◌}
+use Rattle.std.specs.Prelude.{ℕ, nat_lt, List, [], ◌∷◌, length, fold, Bool, if◌then◌else◌}
 use Rattle.std.specs.Map.{remove_entry}
 use Rattle.std.specs.Ordering.{match_ordering}
 use Rattle.view_types.specs.Keys.{key_order, same_key}
@@ -36,7 +36,3 @@ dirty_of bound keys header = record {
   over = nat_lt bound (length keys);
   header = header;
 }
-
-abbrev pub is_empty : {X : Type 0} → List X → Bool
-is_empty [] = true
-is_empty (x ∷ xs) = false

@@ -3,7 +3,8 @@ ghost use Rattle.view_types.specs.Rows.{AreShownRows};
 ghost use Rattle.view_types.specs.declared.key.ViewKey.{ViewKey};
 ghost use Rattle.view_types.specs.declared.shown.Shown.{Shown};
 ghost use Rattle.delta_core.specs.Deltas.{delta_of};
-ghost use Rattle.delta_core.specs.DirtySets.{dirty_of, joined, is_empty};
+ghost use Rattle.plain_data.specs.Lists.{is_empty};
+ghost use Rattle.delta_core.specs.DirtySets.{dirty_of, joined};
 ghost use Rattle.delta_core.specs.Rows.{position_of, row_at};
 ghost use Rattle.delta_core.specs.declared.touched.Touch.{Touch};
 

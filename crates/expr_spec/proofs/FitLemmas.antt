@@ -17,6 +17,7 @@ use Rattle.cal_units.specs.Calendar.{IsDay, IsMoment, is_day, is_moment, year_of
 use Rattle.cal_units.proofs.BucketLemmas.{date_bucket_by_value, moment_bucket_by_value, day_at-range}
 use Rattle.jiff_core.proofs.CalendarLemmas.{days_in_month_bounds}
 use Rattle.cal_units.proofs.DayLemmas.{parts_of}
+use Rattle.plain_data.specs.Results.{and_then}
 use Rattle.cell_core.specs.declared.cell.Cell.{Cell}
 use Rattle.cell_core.specs.declared.cell.Cell.TheVariants.{Null, Bool as Truth, Int, Date, Moment, Words}
 use Rattle.cell_core.specs.declared.cell.CellType.{CellType}
@@ -56,7 +57,7 @@ true-int_le a b h = grind (arith, ints)
 in-range : (b : Bool) (why : RowCause) → b ≡ true → unless_in b why ≡ None
 in-range b why h = rw h refl
 
-range-in : (b : Bool) (why : RowCause) → unless_in b why ≡ None → b ≡ true
+pub range-in : (b : Bool) (why : RowCause) → unless_in b why ≡ None → b ≡ true
 range-in true why h = refl
 range-in false why h = cc
 
@@ -394,7 +395,7 @@ function_value function.Hour ks out cells e fit = one_argument function.Hour kin
 
 -- ---- trees
 
-found : {X Y : Type 0} (r : Result X TreeRefused) (next : X → Result Y TreeRefused) (y : Y) → t.and_then r next ≡ Ok y → (x : X) × (r ≡ Ok x) × (next x ≡ Ok y)
+found : {X Y : Type 0} (r : Result X TreeRefused) (next : X → Result Y TreeRefused) (y : Y) → and_then r next ≡ Ok y → (x : X) × (r ≡ Ok x) × (next x ≡ Ok y)
 found (Ok x) next y e = (x, refl, e)
 found (Err fault) next y e = cc
 
@@ -415,7 +416,7 @@ named : (at : ℕ) (name : List ℕ) (args : Arguments) (ks : List CellType) (ou
 named at name args ks out cells e fit = by_function (function_named name) e
   where
     by_function : (f : Option Function)
-        → t.and_then (t.or_fault tree.Unknown at f) (λ f. t.and_then (t.or_fault tree.BadType at (t.call_kind f ks)) (λ k. t.or_fault tree.Unit at (t.unit_kind f args k))) ≡ Ok out
+        → and_then (t.or_fault tree.Unknown at f) (λ f. and_then (t.or_fault tree.BadType at (t.call_kind f ks)) (λ k. t.or_fault tree.Unit at (t.unit_kind f args k))) ≡ Ok out
         → Fits out (v.call_value f cells)
     by_function None e = cc
     by_function (Some f) e =
@@ -455,7 +456,7 @@ mutual
       let inner = found (t.kind_of columns a) (λ x. t.or_fault tree.BadType at (t.unary_kind o x)) k e in
       unary_value o inner.0 k (v.value_in a row) (no-fault tree.BadType at (t.unary_kind o inner.0) k inner.2)
   value_in columns row (binary at o a b) k fit e n =
-      let left = found (t.kind_of columns a) (λ x. t.and_then (t.kind_of columns b) (λ y. t.or_fault tree.BadType at (t.binary_kind o x y))) k e in
+      let left = found (t.kind_of columns a) (λ x. and_then (t.kind_of columns b) (λ y. t.or_fault tree.BadType at (t.binary_kind o x y))) k e in
       let right = found (t.kind_of columns b) (λ y. t.or_fault tree.BadType at (t.binary_kind o left.0 y)) k left.2 in
       binary_value o left.0 right.0 k (v.value_in a row) (v.value_in b row) (no-fault tree.BadType at (t.binary_kind o left.0 right.0) k right.2)
   value_in columns row (call at name args) k fit e n =
@@ -467,11 +468,11 @@ mutual
   values_in columns row no_arguments [] fit e n = tt
   values_in columns row no_arguments (k ∷ ks) fit e n = cc
   values_in columns row (argument a more) [] fit e n =
-      let first = found (t.kind_of columns a) (λ x. t.and_then (t.kinds_of columns more) (λ xs. Ok (x ∷ xs))) [] e in
+      let first = found (t.kind_of columns a) (λ x. and_then (t.kinds_of columns more) (λ xs. Ok (x ∷ xs))) [] e in
       let later = found (t.kinds_of columns more) (λ xs. Ok (first.0 ∷ xs)) [] first.2 in
       cc
   values_in columns row (argument a more) (k ∷ ks) fit e n =
-      let first = found (t.kind_of columns a) (λ x. t.and_then (t.kinds_of columns more) (λ xs. Ok (x ∷ xs))) (k ∷ ks) e in
+      let first = found (t.kind_of columns a) (λ x. and_then (t.kinds_of columns more) (λ xs. Ok (x ∷ xs))) (k ∷ ks) e in
       let later = found (t.kinds_of columns more) (λ xs. Ok (first.0 ∷ xs)) (k ∷ ks) first.2 in
       let same : first.0 ≡ k = cc in
       let others : later.0 ≡ ks = cc in

@@ -1,6 +1,7 @@
 -- A numbered tree has the type of the tree, and is its own numbering.
 use Rattle.std.proofs.Common.{◌≡◌, ℕ, List, ◌∷◌, Option, Some, None, Result, Ok, Err, refl, ◌∙◌, ap}
 use Rattle.std.specs.Prelude.{if◌then◌else◌}
+use Rattle.plain_data.specs.Results.{and_then}
 use Rattle.cell_core.specs.declared.cell.CellType.{CellType}
 use Rattle.cell_core.specs.declared.cell.CellType.TheVariants.{Integer, Boolean, Date, Moment, Words}
 use Rattle.cell_core.specs.declared.schema.Column.{Column}
@@ -11,7 +12,7 @@ use Rattle.expr_spec.specs.declared.refused.TreeRefused.{TreeRefused}
 use Rattle.expr_spec.specs.Functions.{function_named}
 use Rattle.expr_spec.specs.TreeData.{TreeData, column, number, truth, words, unary, binary, call, Arguments, no_arguments, argument}
 use Rattle.expr_spec.specs.Typing as t
-use Rattle.expr_spec.specs.Typing.{and_then, or_fault, call_kind, is_unit, unit_kind, named_kind, numbered, numbered_all, IsCheckedTree}
+use Rattle.expr_spec.specs.Typing.{or_fault, call_kind, is_unit, unit_kind, named_kind, numbered, numbered_all, IsCheckedTree}
 
 unit-numbered : (columns : List Column) (kind : CellType) (b : TreeData) → is_unit kind (numbered columns b) ≡ is_unit kind b
 unit-numbered columns Integer (column at name i) = refl

@@ -1,6 +1,7 @@
 -- The type of an expression tree against a schema's columns, or the tree's first fault.
 use Rattle.std.specs.Prelude.{◌≡◌, ℕ, pos, int_le, nat_lt, List, [], ◌∷◌, length, Bool, true, false, ◌&&◌, Option, Some, None, is_some, option_and_then, Result, Ok, Err, position, if◌then◌else◌}
 use Rattle.std.specs.Str.{bytes_eq}
+use Rattle.plain_data.specs.Results.{and_then}
 use Rattle.cell_core.specs.Limits.{max_text}
 use Rattle.cell_core.specs.declared.cell.CellType.{CellType}
 use Rattle.cell_core.specs.declared.cell.CellType.TheVariants.{Integer, Boolean, Date, Moment, Words}
@@ -23,11 +24,6 @@ use Rattle.expr_spec.specs.TreeData.{TreeData, column, number, truth, words, una
 abbrev pub or_fault : {X : Type 0} → TreeCause → ℕ → Option X → Result X TreeRefused
 or_fault why at (Some x) = Ok x
 or_fault why at None = Err (record { at = at; cause = why })
-
--- goes on with what was found, or keeps the first fault
-abbrev pub and_then : {X Y : Type 0} → Result X TreeRefused → (X → Result Y TreeRefused) → Result Y TreeRefused
-and_then (Ok x) next = next x
-and_then (Err fault) next = Err fault
 
 -- ---- columns by name
 

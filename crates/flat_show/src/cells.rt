@@ -2,7 +2,8 @@ ghost use Rattle.std.specs.Prelude.{◌≡◌, ◌<◌, All, IfOk, OnOk, length,
 ghost use Rattle.cell_core.specs.Cells.{value_of};
 ghost use Rattle.row_batch.specs.Batches.{pair_of};
 ghost use Rattle.view_spec.specs.Cells.{cells_of_row, head_at, with_value};
-ghost use Rattle.view_spec.specs.Columns.{all_columns, column_at, is_flat};
+ghost use Rattle.plan_types.specs.Columns.{all_columns};
+ghost use Rattle.view_spec.specs.Columns.{column_at, is_flat};
 ghost use Rattle.view_spec.specs.Filters.{cell_in};
 ghost use Rattle.view_types.specs.Types.{shown_type};
 
@@ -14,7 +15,7 @@ use view_types::{Header, HeaderColumn, ShownCells, ShownType};
 /// The text and type of each shown column. Want of memory is the only refusal.
 pub fn header_of(alloc: Global, schema: &Schema, plan: &Plan) -> Result<Header, Memory>
     requires flat { is_flat plan.now ≡ true }
-    requires columns { All (λ i. i < length (all_columns schema.now.columns plan.now)) plan.now.columns }
+    requires columns { All (λ i. i < length (all_columns schema.now.columns plan.now.expressions)) plan.now.columns }
     ensures { IfOk result (λ header. header ≡ map (head_at schema.now.columns plan.now []) plan.now.columns) }
 {
     let mut header = Vec::new(alloc);
@@ -31,7 +32,7 @@ fn header_column(
     i: usize,
 ) -> Result<HeaderColumn, Memory>
     requires flat { is_flat plan.now ≡ true }
-    requires within { i < length (all_columns schema.now.columns plan.now) }
+    requires within { i < length (all_columns schema.now.columns plan.now.expressions) }
     ensures { IfOk result (λ column. column ≡ head_at schema.now.columns plan.now [] i) }
 {
     Ok(HeaderColumn {
@@ -42,7 +43,7 @@ fn header_column(
 
 /// The name of a column, by its number.
 fn column_name<'a>(schema: &'a Schema, plan: &'a Plan, i: usize) -> &'a Text
-    requires { i < length (all_columns schema.now.columns plan.now) }
+    requires { i < length (all_columns schema.now.columns plan.now.expressions) }
     ensures { result.now ≡ (column_at schema.now.columns plan.now i).name }
 {
     let columns = schema.columns();
@@ -55,7 +56,7 @@ fn column_name<'a>(schema: &'a Schema, plan: &'a Plan, i: usize) -> &'a Text
 
 /// The type of a column, by its number.
 fn column_kind(schema: &Schema, plan: &Plan, i: usize) -> CellType
-    requires { i < length (all_columns schema.now.columns plan.now) }
+    requires { i < length (all_columns schema.now.columns plan.now.expressions) }
     ensures { result ≡ (column_at schema.now.columns plan.now i).kind }
 {
     let columns = schema.columns();
@@ -75,7 +76,7 @@ pub fn shown_cells(
     row: &[Cell],
 ) -> Result<ShownCells, Memory>
     requires split { plan.now.split_by ≡ [] }
-    requires columns { All (λ i. i < length (all_columns schema.now.columns plan.now)) plan.now.columns }
+    requires columns { All (λ i. i < length (all_columns schema.now.columns plan.now.expressions)) plan.now.columns }
     ensures { IfOk result (λ cells. cells ≡ cells_of_row schema.now.columns plan.now (pair_of key.now row.now)) }
 {
     let mut cells = ShownCells::new(alloc);

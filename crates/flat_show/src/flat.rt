@@ -3,7 +3,7 @@ ghost use Rattle.std.specs.BTreeMap.{insert_entry};
 ghost use Rattle.plain_data.specs.Distinct.{AreDistinct};
 ghost use Rattle.place_order.specs.Places.{place_order};
 ghost use Rattle.row_batch.specs.Tables.{keys_of_rows};
-ghost use Rattle.view_spec.specs.Columns.{all_columns};
+ghost use Rattle.plan_types.specs.Columns.{all_columns};
 ghost use Rattle.view_spec.specs.Openings.{Opening};
 ghost use Rattle.view_spec.specs.Views.{placed, placed_row, view};
 ghost use Rattle.flat_show.specs.Entries.{entries_by_place};
@@ -80,7 +80,7 @@ fn placed_rows(
     rows: &[Pair],
 ) -> Result<ByPlace, Memory>
     requires whole { plan.now.split_by ≡ [] }
-    requires columns { All (λ i. i < length (all_columns schema.now.columns plan.now)) plan.now.columns }
+    requires columns { All (λ i. i < length (all_columns schema.now.columns plan.now.expressions)) plan.now.columns }
     requires distinct { AreDistinct (keys_of_rows rows.now) }
     ensures { IfOk result (λ by_place. by_place.entries ≡ entries_by_place schema.now.columns plan.now rows.now) }
 {
@@ -100,7 +100,7 @@ fn put_row(
     by_place: &mut ByPlace,
 ) -> Result<(), Memory>
     requires whole { plan.now.split_by ≡ [] }
-    requires columns { All (λ i. i < length (all_columns schema.now.columns plan.now)) plan.now.columns }
+    requires columns { All (λ i. i < length (all_columns schema.now.columns plan.now.expressions)) plan.now.columns }
     ensures { OnOk result (by_place.new.entries ≡ insert_entry place_order by_place.old.entries
         (placed_row schema.now.columns plan.now pair.now).place (placed_row schema.now.columns plan.now pair.now).row) }
 {

@@ -1,8 +1,9 @@
 -- A reply has no float in it.
-use Rattle.std.proofs.Common.{◌≡◌, ℕ, ℤ, pos, negsuc, List, [], ◌∷◌, Option, option_map, Some, None, Bool, true, false, ◌||◌, cond, map, Ordering, Less, Equal, Greater, nat_cmp, codes, refl}
+use Rattle.std.proofs.Common.{◌≡◌, ℕ, ℤ, pos, negsuc, List, [], ◌∷◌, Option, option_map, Some, None, Bool, true, false, cond, map, Ordering, Less, Equal, Greater, nat_cmp, codes, refl}
 use Rattle.std.specs.Cmp.Lexicographic.{slice_cmp}
 use Rattle.std.specs.Fmt.{signed_decimal}
 use Rattle.std.specs.Ordering.{match_ordering}
+use Rattle.std.proofs.lemmas.Bool.{or_parts}
 use Rattle.serde_json.specs.Data.{Data, string, Members, no_members, member, put}
 use Rattle.serde_json.specs.View.{items_of}
 use Rattle.serde_json.specs.Written.{has_float, items_have_float, members_have_float}
@@ -83,10 +84,6 @@ part-free (cell.Words s) = refl
 
 -- ---- members
 
-both_false : (a b : Bool) → (a || b) ≡ false → (a ≡ false) × (b ≡ false)
-both_false true b h = cc
-both_false false b h = (refl, h)
-
 chosen-free : (o : Ordering) (a b c : Members) → AreFree a → AreFree b → AreFree c → AreFree (match_ordering o a b c)
 chosen-free Less a b c p q r = p
 chosen-free Equal a b c p q r = q
@@ -95,7 +92,7 @@ chosen-free Greater a b c p q r = r
 put-free : (k : List ℕ) (d : Data) (ms : Members) → Free d → AreFree ms → AreFree (put k d ms)
 put-free k d no_members p q = rw p
 put-free k d (member l e ms) p q =
-    let parts = both_false (has_float e) (members_have_float ms) q in
+    let parts = or_parts (has_float e) (members_have_float ms) q in
     chosen-free (slice_cmp nat_cmp k l) _ _ _ (rw p q) (rw p parts.1) (rw parts.0 (put-free k d ms p parts.1))
 
 cells-free : (ms : Members) (cells : List (List ℕ × Value)) → AreFree ms → AreFree (with_cells ms cells)

@@ -1,6 +1,5 @@
 mod Texts
 mod TwoRows
-mod Fronts
 mod Dates
 mod Floats
 mod Pairs

@@ -1,4 +1,4 @@
-use cell_core::{Columns, Listed, Numbers, Text};
+use cell_core::{Columns, Listed, Memory, Numbers, Text};
 use delta_core::Delta;
 use plan_json::{PlanCause, PlanPart};
 use std::marker::Model;
@@ -93,6 +93,21 @@ pub struct Refusal {
     pub code: u8,
     pub cause: Cause,
     pub at: Numbers,
+}
+
+impl From<Memory> for Refusal {
+    ghost use Rattle.std.specs.Prelude.{◌≡◌};
+    ghost use Rattle.frame_types.specs.Refusals.{memory};
+
+    ghost from_gives = { λ want made. made ≡ memory };
+
+    fn from(_refused: Memory) -> Refusal {
+        Refusal {
+            code: 22,
+            cause: Cause::Memory,
+            at: Numbers::Zero,
+        }
+    }
 }
 
 /// Views, each by its session and its number there.

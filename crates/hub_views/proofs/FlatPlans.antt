@@ -23,15 +23,17 @@ use Rattle.plan_json.specs.declared.plan.RawSort.{RawSort}
 use Rattle.plan_json.specs.declared.words.PlanPart.{PlanPart}
 use Rattle.plan_json.specs.Plans.{RawFilterData, RawPlanData}
 use Rattle.plan_json.specs.Reading.{are_members, filter_of, if_given, list_of, names_of, or_empty, plan_in, plan_of, sort_of, text_of, texts_of}
-use Rattle.plan_check.specs.Columns.{aggregates_of, all_columns, expression_column, groups_of, known, number_at, numbers_from, numbers_of, place_named, shown_of, splits_of}
+use Rattle.plan_types.specs.Columns.{all_columns, expression_column}
+use Rattle.plan_check.specs.Columns.{aggregates_of, groups_of, known, number_at, numbers_from, numbers_of, place_named, shown_of, splits_of}
 use Rattle.plan_check.specs.Expressions.{expressions_of}
-use Rattle.plan_check.specs.Faults.{and_then, found, unless}
+use Rattle.plain_data.specs.Results.{and_then}
+use Rattle.plan_check.specs.Faults.{found, unless}
 use Rattle.plan_check.specs.Filters.{every_of, filters_of}
 use Rattle.plan_check.specs.Plans.{checked, checked_in}
 use Rattle.plan_check.specs.Sorts.{sorts_of}
 use Rattle.plan_check.specs.declared.columns.ColumnPlace.{ColumnPlace}
 use Rattle.plan_check.specs.declared.refused.PlanFault.{PlanFault}
-use Rattle.view_spec.specs.Filters.{is_empty}
+use Rattle.plain_data.specs.Lists.{is_empty}
 use Rattle.flat_show.specs.Plans.{IsFlatPlan}
 use Rattle.hub_spec.specs.Histories.{choice_of, plenty}
 use Rattle.hub_spec.specs.Plans.{is_filled_list, is_filled_object, is_unbuilt, is_unbuilt_in, plan_asked, plan_checked, plan_read}

@@ -14,7 +14,7 @@ use Rattle.row_batch.specs.declared.batch.Pair.{Pair}
 use Rattle.plan_types.specs.declared.plan.Named.{Named}
 use Rattle.plan_types.specs.declared.plan.Plan.{Plan}
 use Rattle.view_spec.specs.Entries.{is_there}
-use Rattle.view_spec.specs.Filters.{is_empty}
+use Rattle.plain_data.specs.Lists.{is_empty}
 use Rattle.view_spec.specs.Kept.{by_key}
 use Rattle.view_spec.specs.Members.{members}
 use Rattle.view_spec.proofs.PathLaws.{any-members}

@@ -12,7 +12,8 @@ use Rattle.plan_types.specs.declared.plan.Expression.{Expression}
 use Rattle.plan_types.specs.declared.plan.Named.{Named}
 use Rattle.plan_types.specs.declared.plan.Plan.{Plan}
 use Rattle.plan_types.specs.declared.plan.Sort.{Sort}
-use Rattle.view_spec.specs.Columns.{aggregate_at, column_at, expression_column, no_column}
+use Rattle.plan_types.specs.Columns.{expression_column}
+use Rattle.view_spec.specs.Columns.{aggregate_at, column_at, no_column}
 use Rattle.pivot_tree.specs.Columns.{HaveAggregates, aggregate_in, is_among}
 
 -- ---- look-ups among named aggregates

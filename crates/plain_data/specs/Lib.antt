@@ -1,3 +1,5 @@
 pub mod Distinct
 pub mod Faults
+pub mod Lists
+pub mod Results
 pub mod Sorting

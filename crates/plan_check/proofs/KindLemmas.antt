@@ -1,5 +1,6 @@
 -- The types of arguments, one after another.
 use Rattle.std.proofs.Common.{◌≡◌, ℕ, ◌<◌, List, [], ◌∷◌, map, length, Option, Some, None, Result, Ok, Err, refl, sym, ◌∙◌, ap, arith, rules}
+use Rattle.plain_data.specs.Results.{and_then}
 use Rattle.cell_core.specs.declared.cell.CellType.{CellType}
 use Rattle.cell_core.specs.declared.cell.CellType.TheVariants.{Integer, Boolean, Date, Moment, Words}
 use Rattle.plan_types.specs.declared.tree.Tree.{Tree}
@@ -12,7 +13,7 @@ use Rattle.expr_spec.specs.declared.refused.TreeCause.TheVariants as cause
 use Rattle.expr_spec.specs.Functions.{function_named}
 use Rattle.expr_spec.specs.TreeData.{call, Arguments}
 use Rattle.expr_spec.specs.TreeViews.{tree_view, arguments_of}
-use Rattle.expr_spec.specs.Typing.{or_fault, and_then, if_kind, bucket_kind, call_kind, unit_kind, named_kind}
+use Rattle.expr_spec.specs.Typing.{or_fault, if_kind, bucket_kind, call_kind, unit_kind, named_kind}
 use Rattle.plan_check.specs.declared.kinds.Kinds.{Kinds}
 use Rattle.plan_check.specs.declared.kinds.Kinds.TheVariants as kinds
 use Rattle.plan_check.specs.Kinds.{list_of, kinds_after, found_after}

@@ -1,30 +1,23 @@
 -- The columns that a plan names, by their numbers, and their aggregates.
-use Rattle.std.specs.Prelude.{ℕ, ◌+◌, List, [], ◌∷◌, ◌++◌, take, map, not, Option, Some, None, option_map, option_and_then, Result, Ok}
+use Rattle.std.specs.Prelude.{ℕ, ◌+◌, List, [], ◌∷◌, take, not, Option, Some, None, option_map, option_and_then, Result, Ok}
 use Rattle.std.specs.List.{list_any}
 use Rattle.std.specs.Str.{bytes_eq}
+use Rattle.plain_data.specs.Results.{and_then}
 use Rattle.cell_core.specs.declared.schema.Column.{Column}
 use Rattle.cell_core.specs.declared.schema.Numbers.TheVariants.{One}
 use Rattle.plan_types.specs.AggregateNames.{aggregate_named}
-use Rattle.plan_types.specs.declared.plan.Expression.{Expression}
 use Rattle.plan_types.specs.declared.plan.Named.{Named}
 use Rattle.agg_core.specs.Types.{takes}
 use Rattle.expr_spec.specs.Typing.{column_named}
 use Rattle.row_batch.specs.Checks.{kind_at}
 use Rattle.row_cells.specs.Rows.{read_each}
 use Rattle.plan_json.specs.declared.named.NamedText.{NamedText}
-use Rattle.plan_check.specs.Faults.{fault, found, unless, and_then, at_most}
+use Rattle.plan_check.specs.Faults.{fault, found, unless, at_most}
 use Rattle.plan_check.specs.declared.columns.ColumnPlace.{ColumnPlace}
 use Rattle.plan_json.specs.declared.words.PlanCause.TheVariants as cause
 use Rattle.plan_check.specs.declared.refused.PlanFault.{PlanFault}
 use Rattle.plan_json.specs.declared.words.PlanPart.{PlanPart}
 use Rattle.plan_json.specs.declared.words.PlanPart.TheVariants as part
-
--- the schema's columns, and then the expressions'
-abbrev pub expression_column : Expression → Column
-expression_column e = record { name = e.name; kind = e.kind }
-
-abbrev pub all_columns : List Column → List Expression → List Column
-all_columns columns expressions = columns ++ map expression_column expressions
 
 -- the number and the type of the column of a name
 abbrev pub place_named : List Column → List ℕ → Option ColumnPlace

@@ -1,5 +1,6 @@
 -- The expressions of a plan: what their texts are read as, and the columns that they make.
 use Rattle.std.specs.Prelude.{ℕ, nat_lt, List, [], length, ◌||◌, is_some, Result, Ok, Err}
+use Rattle.plain_data.specs.Results.{and_then}
 use Rattle.cell_core.specs.Schemas.{is_bad_name}
 use Rattle.cell_core.specs.declared.cell.CellType.{CellType}
 use Rattle.cell_core.specs.declared.schema.Column.{Column}
@@ -19,7 +20,7 @@ use Rattle.expr_spec.specs.declared.refused.TreeCause.TheVariants as typing
 use Rattle.expr_spec.specs.declared.refused.TreeRefused.{TreeRefused}
 use Rattle.row_cells.specs.Rows.{read_each}
 use Rattle.plan_json.specs.declared.named.NamedText.{NamedText}
-use Rattle.plan_check.specs.Faults.{fault, unless, and_then, at_most}
+use Rattle.plan_check.specs.Faults.{fault, unless, at_most}
 use Rattle.plan_check.specs.Trees.{tree_of}
 use Rattle.plan_json.specs.declared.words.PlanCause.{PlanCause}
 use Rattle.plan_json.specs.declared.words.PlanCause.TheVariants as cause

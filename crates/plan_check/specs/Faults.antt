@@ -22,11 +22,6 @@ found why None = Err why
 abbrev pub unless : {X : Type 0} → Bool → PlanFault → Result X PlanFault → Result X PlanFault
 unless refused why next = if refused then Err why else next
 
--- goes on with what was found, or keeps the first fault
-abbrev pub and_then : {X Y : Type 0} → Result X PlanFault → (X → Result Y PlanFault) → Result Y PlanFault
-and_then (Ok x) next = next x
-and_then (Err why) next = Err why
-
 -- at most so many
 abbrev pub at_most : {A X : Type 0} → ℕ → PlanPart → List A → Result X PlanFault → Result X PlanFault
 at_most most part xs next = unless (nat_lt most (length xs)) (fault part cause.TooMany (One (length xs))) next

@@ -1,6 +1,7 @@
 -- The filters of a plan.
 use Rattle.std.specs.Prelude.{ℕ, nat_lt, List, length, codes, Bool, true, false, not, Option, Some, None, option_map, Result, Ok, Err, if◌then◌else◌}
 use Rattle.std.specs.Str.{bytes_eq}
+use Rattle.plain_data.specs.Results.{and_then}
 use Rattle.cell_core.specs.Cells.{is_null}
 use Rattle.cell_core.specs.Limits.{max_text}
 use Rattle.cell_core.specs.RawData.{RawData, raw_null, raw_words, raw_list}
@@ -18,7 +19,7 @@ use Rattle.json_rows.specs.Reading.{cell_of}
 use Rattle.plan_json.specs.Plans.{RawFilterData}
 use Rattle.plan_json.specs.Reading.{each}
 use Rattle.plan_check.specs.Columns.{known}
-use Rattle.plan_check.specs.Faults.{fault, found, unless, and_then, at_most}
+use Rattle.plan_check.specs.Faults.{fault, found, unless, at_most}
 use Rattle.plan_check.specs.declared.columns.ColumnPlace.{ColumnPlace}
 use Rattle.plan_check.specs.declared.filters.Operator.{Operator}
 use Rattle.plan_check.specs.declared.filters.Operator.TheVariants as operator

@@ -1,13 +1,14 @@
 -- The plan that a written one is against a schema, or its first fault: members in this order, then positions, then words.
 use Rattle.std.specs.Prelude.{List, Result, Ok}
+use Rattle.plain_data.specs.Results.{and_then}
 use Rattle.cell_core.specs.Schemas.{SchemaData}
 use Rattle.cell_core.specs.declared.schema.Column.{Column}
+use Rattle.plan_types.specs.Columns.{all_columns}
 use Rattle.plan_types.specs.declared.plan.Expression.{Expression}
 use Rattle.plan_types.specs.declared.plan.Plan.{Plan}
 use Rattle.plan_json.specs.Plans.{RawPlanData}
-use Rattle.plan_check.specs.Columns.{aggregates_of, all_columns, groups_of, shown_of, splits_of}
+use Rattle.plan_check.specs.Columns.{aggregates_of, groups_of, shown_of, splits_of}
 use Rattle.plan_check.specs.Expressions.{expressions_of}
-use Rattle.plan_check.specs.Faults.{and_then}
 use Rattle.plan_check.specs.Filters.{every_of, filters_of}
 use Rattle.plan_check.specs.Sorts.{sorts_of}
 use Rattle.plan_check.specs.declared.refused.PlanFault.{PlanFault}

@@ -1,21 +1,21 @@
 -- The sorts of a plan.
-use Rattle.std.specs.Prelude.{ℕ, ◌==◌, List, [], ◌∷◌, take, find, codes, Bool, true, false, not, ◌&&◌, Option, Some, None, option_map, unwrap_or, Result, Ok, if◌then◌else◌}
+use Rattle.std.specs.Prelude.{ℕ, List, [], ◌∷◌, take, codes, Bool, true, false, not, ◌&&◌, Option, Some, None, Result, Ok, if◌then◌else◌}
 use Rattle.std.specs.List.{list_any}
 use Rattle.std.specs.Str.{bytes_eq}
+use Rattle.plain_data.specs.Results.{and_then}
 use Rattle.cell_core.specs.declared.cell.Direction.{Direction}
 use Rattle.cell_core.specs.declared.cell.Direction.TheVariants as direction
 use Rattle.cell_core.specs.declared.schema.Column.{Column}
 use Rattle.cell_core.specs.declared.schema.Numbers.TheVariants.{One}
-use Rattle.plan_types.specs.declared.aggregate.AggName.{AggName}
 use Rattle.plan_types.specs.declared.plan.Named.{Named}
 use Rattle.plan_types.specs.declared.plan.Sort.{Sort}
-use Rattle.agg_core.specs.Types.{default_aggregate, is_numeric, result_type}
+use Rattle.agg_core.specs.Types.{aggregate_for, is_numeric, result_type}
 use Rattle.agg_core.specs.declared.types.ResultType.{ResultType}
 use Rattle.agg_core.specs.declared.types.ResultType.TheVariants as result
 use Rattle.row_cells.specs.Rows.{read_each}
 use Rattle.plan_json.specs.declared.plan.RawSort.{RawSort}
 use Rattle.plan_check.specs.Columns.{known}
-use Rattle.plan_check.specs.Faults.{fault, found, unless, and_then, at_most}
+use Rattle.plan_check.specs.Faults.{fault, found, unless, at_most}
 use Rattle.plan_check.specs.declared.columns.ColumnPlace.{ColumnPlace}
 use Rattle.plan_json.specs.declared.words.PlanCause.TheVariants as cause
 use Rattle.plan_check.specs.declared.refused.PlanFault.{PlanFault}
@@ -35,11 +35,6 @@ is_absolute direction.Desc = false
 is_absolute direction.AscAbs = true
 is_absolute direction.DescAbs = true
 
--- the aggregate that is named for a column, and else that of its type
-abbrev pub aggregate_for : List Named → ColumnPlace → AggName
-aggregate_for aggregates place =
-    unwrap_or (option_map (λ n. n.aggregate) (find (λ n. n.column == place.number) aggregates)) (default_aggregate place.kind)
-
 -- whether the values of an aggregate are numbers
 abbrev pub has_size : ResultType → Bool
 has_size (result.Column kind) = is_numeric kind
@@ -48,7 +43,7 @@ has_size result.Fraction = true
 -- a flat view sorts by cells, and one with groups by the aggregates' values
 abbrev pub is_sized : List ℕ → List Named → ColumnPlace → Bool
 is_sized [] aggregates place = is_numeric place.kind
-is_sized (g ∷ gs) aggregates place = has_size (result_type (aggregate_for aggregates place) place.kind)
+is_sized (g ∷ gs) aggregates place = has_size (result_type (aggregate_for aggregates place.number place.kind) place.kind)
 
 -- sort i: `unknown`, `twice`, `direction`, and then `type` of a direction by absolute values
 abbrev pub sort_at : List Column → List ℕ → List Named → List RawSort → ℕ → RawSort → Result Sort PlanFault

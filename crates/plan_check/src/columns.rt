@@ -1,9 +1,10 @@
 ghost use Rattle.std.specs.Prelude.{◌≡◌, ◌++◌, IfOk, map, take};
 ghost use Rattle.std.specs.List.{list_any};
 ghost use Rattle.std.specs.Str.{bytes_eq};
+ghost use Rattle.plan_types.specs.Columns.{all_columns, expression_column};
 ghost use Rattle.expr_spec.specs.Typing.{column_named};
 ghost use Rattle.row_batch.specs.Checks.{kind_at};
-ghost use Rattle.plan_check.specs.Columns.{aggregate_at, aggregates_of, all_columns, expression_column, groups_of, known};
+ghost use Rattle.plan_check.specs.Columns.{aggregate_at, aggregates_of, groups_of, known};
 ghost use Rattle.plan_check.specs.Columns.{number_at, numbers_from, numbers_of, place_named, shown_of, splits_of};
 
 use crate::fault::{Checked, fault_at, found, too_many};

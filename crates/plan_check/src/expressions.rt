@@ -1,4 +1,5 @@
 ghost use Rattle.std.specs.Prelude.{◌≡◌, ◌||◌, IfOk, Ok, is_some, not};
+ghost use Rattle.plain_data.specs.Results.{and_then};
 ghost use Rattle.cell_core.specs.Schemas.{is_bad_name};
 ghost use Rattle.cell_core.specs.declared.schema.Numbers.TheVariants.{Two};
 ghost use Rattle.expr_spec.specs.TreeViews.{tree_view};
@@ -6,7 +7,7 @@ ghost use Rattle.expr_spec.specs.Typing.{column_named, kind_of};
 ghost use Rattle.row_cells.specs.Rows.{read_each};
 ghost use Rattle.plan_check.specs.Expressions.{expression, expression_at, expressions_of, kind_answer, parse_answer, parse_cause};
 ghost use Rattle.plan_check.specs.Expressions.{parsed, typing_cause};
-ghost use Rattle.plan_check.specs.Faults.{and_then, fault};
+ghost use Rattle.plan_check.specs.Faults.{fault};
 ghost use Rattle.plan_json.specs.declared.words.PlanPart.TheVariants as part;
 
 use crate::fault::{Checked, fault_at, too_many};

@@ -2,16 +2,15 @@ ghost use Rattle.std.specs.Prelude.{◌≡◌, IfOk, take};
 ghost use Rattle.std.specs.List.{list_any};
 ghost use Rattle.std.specs.Str.{bytes_eq};
 ghost use Rattle.row_cells.specs.Rows.{read_each};
-ghost use Rattle.agg_core.specs.Types.{is_numeric};
-ghost use Rattle.plan_check.specs.Sorts.{aggregate_for, direction_named, has_size, is_absolute, is_sized, sort_at};
+ghost use Rattle.plan_check.specs.Sorts.{direction_named, has_size, is_absolute, is_sized, sort_at};
 ghost use Rattle.plan_check.specs.Sorts.{sorts_of};
 
 use crate::columns::{ColumnPlace, known};
 use crate::fault::{Checked, fault_at, found, too_many};
-use agg_core::{ResultType, default_aggregate, result_type};
-use cell_core::{CellType, Column, Direction, Listed, Memory, Text};
+use agg_core::{ResultType, aggregate_for, is_numeric, result_type};
+use cell_core::{Column, Direction, Listed, Memory, Text};
 use plan_json::{PlanCause, PlanPart, RawSort};
-use plan_types::{AggName, Named, Sort, Sorts};
+use plan_types::{Named, Sort, Sorts};
 use std::alloc::Global;
 
 /// The most sorts of a plan.
@@ -116,33 +115,17 @@ fn is_sized(groups: &[usize], aggregates: &[Named], place: ColumnPlace) -> bool
     ensures { result ≡ is_sized groups.now aggregates.now place }
 {
     if groups.is_empty() {
-        return is_integer(place.kind);
+        return is_numeric(place.kind);
     }
-    has_size(result_type(aggregate_for(aggregates, place), place.kind))
-}
-
-/// The aggregate that is named for a column, and else that of its type.
-fn aggregate_for(aggregates: &[Named], place: ColumnPlace) -> AggName
-    ensures { result ≡ aggregate_for aggregates.now place }
-{
-    aggregates
-        .iter()
-        .find(|named| named.column == place.number)
-        .map(|named| named.aggregate)
-        .unwrap_or(default_aggregate(place.kind))
+    let aggregate = aggregate_for(aggregates, place.number, place.kind);
+    has_size(result_type(aggregate, place.kind))
 }
 
 fn has_size(shown: ResultType) -> bool
     ensures { result ≡ has_size shown }
 {
     match shown {
-        ResultType::Column(kind) => is_integer(kind),
+        ResultType::Column(kind) => is_numeric(kind),
         ResultType::Fraction => true,
     }
-}
-
-fn is_integer(kind: CellType) -> bool
-    ensures { result ≡ is_numeric kind }
-{
-    matches!(kind, CellType::Integer)
 }

@@ -1,5 +1,5 @@
 -- Members of objects, one after another.
-use Rattle.std.proofs.Common.{◌≡◌, ℕ, List, [], ◌∷◌, ◌++◌, Bool, true, false, cond, Option, Some, None, Ordering, Less, Equal, Greater, nat_cmp, is_eq, map, refl, sym, ap, ◌∙◌}
+use Rattle.std.proofs.Common.{◌≡◌, ℕ, List, [], ◌∷◌, ◌++◌, cond, Some, Ordering, Less, Equal, Greater, nat_cmp, is_eq, map, refl, sym, ap, ◌∙◌}
 use Rattle.std.proofs.lemmas.Cmp.{nat_list_cmp_total}
 use Rattle.std.proofs.lemmas.Map.Text.{is_eq-slice_cmp}
 use Rattle.std.specs.List.{AllByRecursion}
@@ -7,7 +7,7 @@ use Rattle.std.specs.List.Sorted.{IsStrictlySortedBy}
 use Rattle.std.specs.Cmp.Lexicographic.{slice_cmp}
 use Rattle.std.specs.Ordering.{match_ordering, ordering_reverse}
 use Rattle.std.specs.Str.{bytes_eq}
-use Rattle.cell_core.specs.RawData.{RawData, raw_words, raw_map, RawItems, RawMembers, no_raw_members, raw_member, get_raw}
+use Rattle.cell_core.specs.RawData.{RawData, raw_words, raw_map, RawItems, RawMembers, raw_member, get_raw}
 use Rattle.cell_core.specs.RawViews.{raw_view, map_view, members_of, view_step, list_step, map_step}
 use Rattle.cell_core.specs.declared.raw.Raw.TheFolds.{fold-roll-Raw}
 use Rattle.cell_core.specs.declared.raw.Raw.TheOpen.{Raw-F}

@@ -26,15 +26,17 @@ pub enum PlanCause {
     Name,
     /// An expression's text has more than 1,024 bytes.
     Long,
-    /// A number above 2^53-1, as the next five with the expression's place and the byte place in it.
+    /// A number above 2^53-1. `at` has the expression's place and the byte place in it, as for `Nesting`, `Syntax` and
+    /// `Unit`.
     Number,
     /// More than 64 levels of nesting.
     Nesting,
     /// No token, or one that can't stand there.
     Syntax,
-    /// No column of that name, or no function.
+    /// No column of that name, or in an expression no function. There `at` has a byte place too, and elsewhere the
+    /// item's place alone.
     Unknown,
-    /// A type that doesn't fit.
+    /// A type that doesn't fit, with the places of `Unknown`.
     BadType,
     /// The second argument of `bucket` doesn't fit.
     Unit,

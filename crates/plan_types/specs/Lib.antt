@@ -1,1 +1,2 @@
 pub mod AggregateNames
+pub mod Columns

@@ -7,6 +7,7 @@ use Rattle.std.specs.List.{AllByRecursion, IsDistinct}
 use Rattle.std.specs.List.Sorted.{IsPermutation}
 use Rattle.std.specs.Map.{keys_of, update}
 use Rattle.std.specs.Option.{option_or}
+use Rattle.std.proofs.lemmas.Bool.{false_from_ne_true}
 use Rattle.std.proofs.lemmas.List.Elements.{All-nil, All-cons, All-head, All-tail}
 use Rattle.std.proofs.lemmas.List.Sorted.{IsPermutation-refl, IsPermutation-cons, IsPermutation-swap, IsPermutation-trans, IsPermutation-sym, All-permutation}
 use Rattle.std.specs.Cmp.{Equal-is, eq_by_cmp_equiv}
@@ -38,12 +39,8 @@ same_decides a b = (λ h. order.exact a b ((Equal-is (cell_order a b)).0 h), λ 
 pub derived_same : (a b : Cell) → cell_eq.ghosts.eq a b ≡ same_cell a b
 derived_same a b = matches_eq-law a b ∙ ap is_eq (order.derived_order a b)
 
-false_unless : (b : Bool) → (b ≡ true → ⊥) → b ≡ false
-false_unless true never = absurd (never refl)
-false_unless false never = refl
-
 pub not_same : (a b : Cell) → b ≢ a → same_cell a b ≡ false
-not_same a b ne = false_unless (same_cell a b) (λ h. ne (sym ((same_decides a b).0 h)))
+not_same a b ne = false_from_ne_true (same_cell a b) (λ h. ne (sym ((same_decides a b).0 h)))
 
 -- ---- rows as a map's entries
 

@@ -25,12 +25,12 @@ int_cmp-exact x y h = int_ranked x y Equal (sym h)
 nat_cmp-exact : (x y : ℕ) → nat_cmp x y ≡ Equal → x ≡ y
 nat_cmp-exact x y h = ranked x y Equal (sym h)
 
-then_left : (a b : Ordering) → ordering_then a b ≡ Equal → a ≡ Equal
+pub then_left : (a b : Ordering) → ordering_then a b ≡ Equal → a ≡ Equal
 then_left Less b h = cc
 then_left Equal b h = refl
 then_left Greater b h = cc
 
-then_right : (a b : Ordering) → ordering_then a b ≡ Equal → b ≡ Equal
+pub then_right : (a b : Ordering) → ordering_then a b ≡ Equal → b ≡ Equal
 then_right Less b h = cc
 then_right Equal b h = h
 then_right Greater b h = cc

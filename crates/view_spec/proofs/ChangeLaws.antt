@@ -1,9 +1,6 @@
 -- What a change makes of the kept rows, of a group's members and of what stands under a row's key.
-use Rattle.std.proofs.Common.{◌≡◌, ◌≢◌, Bool, true, false, cond, List, [], ◌∷◌, ◌++◌, map, filter, All, Option, Some, None, refl, sym, ◌∙◌, ap, subst}
+use Rattle.std.proofs.Common.{◌≡◌, Bool, true, false, cond, List, [], ◌∷◌, ◌++◌, map, filter, Option, Some, None, refl, sym, ◌∙◌, ap}
 use Rattle.std.specs.Prelude.{not, fold}
-use Rattle.std.specs.BTreeMap.{insert_entry}
-use Rattle.std.specs.Map.{remove_entry, update}
-use Rattle.std.specs.List.{IsDistinct}
 use Rattle.std.specs.Option.{option_map}
 use Rattle.std.specs.Ordering.{eq_by_cmp}
 use Rattle.std.proofs.lemmas.List.{append-nil, map-append}
@@ -21,7 +18,6 @@ use Rattle.row_batch.proofs.Lookups.{row_at-changed}
 use Rattle.plan_types.specs.declared.plan.Plan.{Plan}
 use Rattle.view_spec.specs.Entries.{kept_at, row_entry}
 use Rattle.view_spec.specs.Kept.{by_key, full_pair, is_kept, kept}
-use Rattle.view_spec.specs.Members.{is_member, members}
 use Rattle.view_spec.specs.Steps.{changed_side}
 use Rattle.view_spec.specs.Views.{Side, placed_row}
 use Rattle.view_spec.proofs.KeptLaws.{by_key-total, full_differ, keys_differ}

@@ -1,30 +1,25 @@
 -- A flat view without splits, of rows in any order.
-use Rattle.std.proofs.Common.{◌≡◌, ◌≢◌, Bool, true, false, cond, List, [], ◌∷◌, ◌++◌, map, filter, All, refl, sym, ◌∙◌, ap, subst}
+use Rattle.std.proofs.Common.{◌≡◌, ◌≢◌, Bool, true, false, cond, List, [], ◌∷◌, map, filter, All, refl, sym, ◌∙◌, ap, subst}
 use Rattle.std.specs.List.{IsDistinct}
-use Rattle.std.specs.List.Sorted.{IsPermutation}
 use Rattle.std.specs.Ordering.{eq_by_cmp}
 use Rattle.std.proofs.lemmas.List.{append-nil}
-use Rattle.std.proofs.lemmas.List.Elements.{All-nil, All-cons, All-head, All-tail, All-map, All-weaker}
+use Rattle.std.proofs.lemmas.List.Elements.{All-nil, All-cons, All-head, All-tail}
 use Rattle.std.proofs.lemmas.List.Sorted.{IsPermutation-map}
 use Rattle.plain_data.specs.Distinct.{AreDistinct}
 use Rattle.plain_data.specs.Sorting.{sorted_by}
 use Rattle.cell_core.specs.declared.schema.Column.{Column}
-use Rattle.place_order.specs.declared.rank.Rank.{Rank}
 use Rattle.row_batch.specs.Tables.{keys_of_rows}
 use Rattle.row_batch.specs.declared.batch.Pair.{Pair}
 use Rattle.plan_types.specs.declared.plan.Plan.{Plan}
-use Rattle.view_types.specs.declared.shown.HeaderColumn.{HeaderColumn}
-use Rattle.view_types.specs.declared.shown.Shown.{Shown}
-use Rattle.view_types.specs.declared.shown.ShownRow.{ShownRow}
 use Rattle.view_spec.specs.Cells.{head_at, header_of}
 use Rattle.view_spec.specs.Columns.{is_flat}
 use Rattle.view_spec.specs.Kept.{by_key, full_pair, is_kept, kept}
 use Rattle.view_spec.specs.Members.{paths, split_of, splits, splits_by}
-use Rattle.view_spec.specs.Openings.{Opening, is_visible}
+use Rattle.view_spec.specs.Openings.{is_visible}
 use Rattle.view_spec.specs.Paths.{path_set}
 use Rattle.view_spec.specs.Places.{place_of_row}
 use Rattle.view_spec.specs.declared.placed.PlacedRow.{PlacedRow}
-use Rattle.view_spec.specs.Views.{Side, by_place, entries, placed, placed_group, placed_row, view}
+use Rattle.view_spec.specs.Views.{Side, by_place, placed, placed_group, placed_row}
 use Rattle.view_spec.proofs.KeptLaws.{full_differ, keys_differ}
 use Rattle.view_spec.proofs.PlaceLaws.{place_of_row-exact}
 use Rattle.view_spec.proofs.Sorting.{IsDistinct-filter, IsPermutation-sorted_by, sorted_by-IsPermutation}

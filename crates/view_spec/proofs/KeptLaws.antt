@@ -1,17 +1,17 @@
 -- A group's members are those rows that count in it, and a change of other rows leaves them as they are.
-use Rattle.std.proofs.Common.{◌≡◌, ◌≢◌, ◌<◌, Bool, true, false, cond, ◌&&◌, List, [], ◌∷◌, ◌++◌, map, filter, length, get_or, All, Option, Some, None, Ordering, Equal, refl, sym, ◌∙◌, ap, subst}
+use Rattle.std.proofs.Common.{◌≡◌, ◌≢◌, Bool, true, false, cond, ◌&&◌, List, [], ◌∷◌, ◌++◌, map, filter, All, Option, Some, None, refl, sym, ◌∙◌, ap, subst}
 use Rattle.std.specs.Prelude.{not}
-use Rattle.std.specs.Cmp.{IsTotalOrder, Equal-is}
+use Rattle.std.specs.Cmp.{IsTotalOrder}
 use Rattle.std.specs.List.{AllByRecursion, IsDistinct}
 use Rattle.std.specs.Option.{IfSome, option_map, option_to_list}
-use Rattle.std.specs.Ordering.{eq_by_cmp, is_eq}
+use Rattle.std.specs.Ordering.{eq_by_cmp}
 use Rattle.std.proofs.lemmas.List.{append-nil}
 use Rattle.std.proofs.lemmas.List.Elements.{All-nil, All-cons, All-head, All-tail, filter-append}
 use Rattle.plain_data.specs.Distinct.{AreDistinct}
 use Rattle.plain_data.specs.Sorting.{sorted_by}
-use Rattle.cell_core.specs.Cells.{cell_order, same_cell}
+use Rattle.cell_core.specs.Cells.{same_cell}
 use Rattle.cell_core.specs.declared.cell.Cell.{Cell}
-use Rattle.cell_core.proofs.CellOrder.{total, exact}
+use Rattle.cell_core.proofs.CellOrder.{total}
 use Rattle.row_batch.specs.Batches.{pair_of}
 use Rattle.row_batch.specs.Changes.{FitRows, changed, changed_all, row_at}
 use Rattle.row_batch.specs.Tables.{keys_of_rows}

@@ -1,33 +1,31 @@
 -- A step touches no group but those in which a changed row counts, and those below a group whose sort ranks changed.
 use Rattle.value_core.specs.declared.value.Value.{Value}
-use Rattle.std.proofs.Common.{◌≡◌, ℕ, Bool, true, false, cond, ◌&&◌, ◌||◌, List, [], ◌∷◌, map, filter, All, Option, Some, None, refl, sym, ◌∙◌, ap, subst}
+use Rattle.std.proofs.Common.{◌≡◌, ℕ, true, false, cond, ◌&&◌, ◌||◌, List, [], All, Option, Some, None, refl, sym, ◌∙◌, ap}
 use Rattle.std.specs.Prelude.{not}
-use Rattle.std.specs.List.{list_any}
 use Rattle.plain_data.specs.Distinct.{AreDistinct}
 use Rattle.cell_core.specs.declared.cell.Cell.{Cell}
 use Rattle.cell_core.specs.declared.schema.Column.{Column}
-use Rattle.row_batch.specs.Changes.{FitRows, changed_all}
+use Rattle.row_batch.specs.Changes.{FitRows}
 use Rattle.row_batch.specs.Tables.{keys_of_rows}
 use Rattle.row_batch.specs.declared.batch.Pair.{Pair}
 use Rattle.row_batch.specs.declared.change.RowChange.{RowChange}
 use Rattle.row_batch.proofs.ChangeLists.{distinct_changed_all}
 use Rattle.std.proofs.lemmas.Cmp.{tied_itself}
+use Rattle.plain_data.specs.Lists.{is_empty}
 use Rattle.view_types.specs.declared.key.ViewKey.{ViewKey}
 use Rattle.view_types.specs.declared.key.ViewKey.TheVariants.{Group}
 use Rattle.view_types.proofs.SameRows.{same_row_itself}
-use Rattle.delta_core.specs.Rows.{at_key}
 use Rattle.plan_types.specs.declared.plan.Plan.{Plan}
 use Rattle.view_spec.specs.Cells.{cells_of_group}
 use Rattle.view_spec.specs.Columns.{is_flat}
-use Rattle.view_spec.specs.Filters.{is_empty}
 use Rattle.view_spec.specs.Entries.{entry, group_entry, is_there, where_it}
 use Rattle.view_spec.specs.Kept.{kept}
-use Rattle.view_spec.specs.Members.{is_member, members, splits}
+use Rattle.view_spec.specs.Members.{members, splits}
 use Rattle.view_spec.specs.Openings.{Opening, is_visible, mark_of}
 use Rattle.view_spec.specs.Paths.{prefixes}
 use Rattle.place_order.specs.declared.rank.Rank.{Rank}
-use Rattle.view_spec.specs.Places.{group_ranks, levels, place_of_group, rows_value, sort_ranks}
-use Rattle.view_spec.specs.Touching.{is_touched, key_of, same_found}
+use Rattle.view_spec.specs.Places.{group_ranks, place_of_group, rows_value, sort_ranks}
+use Rattle.view_spec.specs.Touching.{is_touched, same_found}
 use Rattle.view_spec.specs.declared.placed.PlacedRow.{PlacedRow}
 use Rattle.view_spec.specs.Views.{Side, placed, placed_group}
 use Rattle.view_spec.specs.Steps.{PassesGroup, changed_side}

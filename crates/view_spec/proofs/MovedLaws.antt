@@ -1,26 +1,21 @@
 -- A group below one whose sort ranks changed has another place, and is touched.
-use Rattle.std.proofs.Common.{◌≡◌, ◌≢◌, ℕ, ◌+◌, Bool, true, false, ◌&&◌, List, [], ◌∷◌, ◌++◌, map, length, All, Some, Ordering, Equal, refl, sym, ◌∙◌, ap, subst, append_assoc, length-append, arith}
-use Rattle.std.specs.Prelude.{not}
-use Rattle.std.specs.Ordering.{is_eq}
+use Rattle.std.proofs.Common.{◌≡◌, ℕ, ◌+◌, true, List, [], ◌∷◌, ◌++◌, map, length, All, refl, sym, ◌∙◌, ap, append_assoc, length-append}
 use Rattle.std.proofs.lemmas.List.Elements.{All-nil, All-cons, All-map, All-weaker}
 use Rattle.cell_core.specs.Cells.{value_of}
 use Rattle.cell_core.specs.declared.cell.Cell.{Cell}
 use Rattle.cell_core.specs.declared.schema.Column.{Column}
 use Rattle.place_order.specs.PlaceLaws.{both, is_equal, place_order-exact}
-use Rattle.place_order.specs.Places.{place_order}
 use Rattle.place_order.specs.declared.rank.Rank.{Rank}
 use Rattle.place_order.specs.declared.rank.Rank.TheVariants.{Asc}
 use Rattle.plan_types.specs.declared.plan.Plan.{Plan}
 use Rattle.row_batch.specs.declared.batch.Pair.{Pair}
-use Rattle.view_types.specs.Same.{same_row}
 use Rattle.view_spec.specs.Members.{members}
 use Rattle.view_spec.specs.Openings.{Opening}
 use Rattle.view_spec.specs.Paths.{prefixes}
 use Rattle.view_spec.specs.Places.{group_ranks, levels, place_of_group, rows_value}
 use Rattle.view_spec.specs.Touching.{same_placed}
 use Rattle.view_spec.specs.Views.{placed_group}
-use Rattle.view_spec.specs.declared.placed.PlacedRow.{PlacedRow}
-use Rattle.view_spec.proofs.PlaceLaws.{asc_value, length_sort_ranks, same_parts, value_of-exact}
+use Rattle.view_spec.proofs.PlaceLaws.{asc_value, length_sort_ranks, never, same_parts, value_of-exact}
 
 -- one place has one list of ranks at each level
 pub levels-ranks : (f g : List Cell → List Rank) (n : ℕ) → ((q : List Cell) → length (f q) ≡ n) → ((q : List Cell) → length (g q) ≡ n) → (done path : List Cell)
@@ -49,10 +44,6 @@ untouched-ranks columns plan opening rows more q same =
     levels-ranks (group_ranks columns plan rows) (group_ranks columns plan more) (length plan.sorts)
     (λ r. length_sort_ranks plan (rows_value columns plan (members plan rows r))) (λ r. length_sort_ranks plan (rows_value columns plan (members plan more r))) [] q
     (place_order-exact (place_of_group columns plan rows q) (place_of_group columns plan more q) (is_equal _ (both _ _ same).0))
-
-never : {X : Type 0} (xs zs : List X) (y : X) → [] ≢ (xs ++ y ∷ []) ++ zs
-never [] zs y h = cc
-never (x ∷ xs) zs y h = cc
 
 -- paths at one place are one, also where each is placed by ranks of its own
 pub levels-path : (f g : List Cell → List Rank) (n : ℕ) → ((q : List Cell) → length (f q) ≡ n) → ((q : List Cell) → length (g q) ≡ n) → (done end p q : List Cell)

@@ -2,6 +2,7 @@
 use Rattle.std.proofs.Common.{◌≡◌, ◌≢◌, ℕ, zero, suc, Bool, true, false, cond, ◌&&◌, ◌||◌, List, [], ◌∷◌, ◌++◌, map, filter, All, Option, Some, None, is_some, refl, sym, ◌∙◌, ap, subst}
 use Rattle.std.specs.Prelude.{not, slice_index_or}
 use Rattle.std.specs.List.{list_any}
+use Rattle.std.proofs.lemmas.Bool.{or_right}
 use Rattle.std.proofs.lemmas.List.{map-append}
 use Rattle.std.proofs.lemmas.List.Elements.{All-append, All-nil, All-cons, All-filter, All-head, All-map, All-tail, All-weaker}
 use Rattle.std.proofs.lemmas.Map.Lookups.{exact_unsigned}
@@ -16,6 +17,7 @@ use Rattle.row_batch.specs.Changes.{FitsColumns}
 use Rattle.row_batch.specs.declared.batch.Pair.{Pair}
 use Rattle.row_batch.specs.declared.change.RowChange.{RowChange}
 use Rattle.row_batch.proofs.ChangeLists.{distinct_changed_all}
+use Rattle.plan_types.specs.Columns.{all_columns, expression_column}
 use Rattle.plan_types.specs.declared.aggregate.AggName.{AggName}
 use Rattle.plan_types.specs.declared.aggregate.AggName.TheVariants as name
 use Rattle.plan_types.specs.declared.plan.Expression.{Expression}
@@ -29,7 +31,7 @@ use Rattle.view_types.specs.declared.key.ViewKey.TheVariants.{Group}
 use Rattle.view_types.specs.declared.shown.HeaderColumn.{HeaderColumn}
 use Rattle.delta_core.proofs.DistinctRows.{AreDistinct-from_ascending}
 use Rattle.view_spec.specs.Cells.{HasKinds, cells_of_group, head_at, header_of, text_at}
-use Rattle.view_spec.specs.Columns.{aggregate_at, all_columns, column_at, expression_column, is_flat, no_column}
+use Rattle.view_spec.specs.Columns.{aggregate_at, column_at, is_flat, no_column}
 use Rattle.view_spec.specs.Entries.{entry, group_entry, is_there, where_it}
 use Rattle.view_spec.specs.Filters.{cell_in}
 use Rattle.view_spec.specs.Kept.{by_key, full_pair, is_kept, kept}
@@ -83,10 +85,10 @@ has_kinds columns row [] h = tt
 has_kinds columns row (i ∷ is) h = (fits_at columns row i h, has_kinds columns row is h)
 
 abbrev split_kinds : List Column → Plan → List CellType
-split_kinds columns plan = kinds_by (all_columns columns plan) plan.split_by
+split_kinds columns plan = kinds_by (all_columns columns plan.expressions) plan.split_by
 
 abbrev Full : List Column → Plan → Pair → Type 0
-Full columns plan p = FitsColumns (all_columns columns plan) p.row
+Full columns plan p = FitsColumns (all_columns columns plan.expressions) p.row
 
 kept-full : (s : Side) → IsTyped s → All (Full s.columns s.plan) (kept s.plan s.pairs)
 kept-full s h =
@@ -104,10 +106,10 @@ splits-by-kinds columns (i ∷ is) found all = all
 splits-kinds : (s : Side) → IsTyped s → All (HasKinds (split_kinds s.columns s.plan)) (splits s.plan (kept s.plan s.pairs))
 splits-kinds s h =
     let kinds = split_kinds s.columns s.plan in
-    splits-by-kinds (all_columns s.columns s.plan) s.plan.split_by (path_set (map (split_of s.plan) (kept s.plan s.pairs)))
+    splits-by-kinds (all_columns s.columns s.plan.expressions) s.plan.split_by (path_set (map (split_of s.plan) (kept s.plan s.pairs)))
     (All-path_set (HasKinds kinds) (map (split_of s.plan) (kept s.plan s.pairs))
     (All-map (HasKinds kinds) (split_of s.plan) (kept s.plan s.pairs)
-    (All-weaker (Full s.columns s.plan) (λ (p : Pair). HasKinds kinds (split_of s.plan p)) (λ p row. has_kinds (all_columns s.columns s.plan) p.row s.plan.split_by row) (kept s.plan s.pairs) (kept-full s h))))
+    (All-weaker (Full s.columns s.plan) (λ (p : Pair). HasKinds kinds (split_of s.plan p)) (λ p row. has_kinds (all_columns s.columns s.plan.expressions) p.row s.plan.split_by row) (kept s.plan s.pairs) (kept-full s h))))
 
 -- ---- the texts of a header
 
@@ -195,10 +197,6 @@ counted : (n : AggName) (cells : List Cell) → counts_rows n ≡ true → is_so
 counted name.Count cells h = refl
 counted name.DistinctCount cells h = refl
 counted n cells h = absurd (let wrong : false ≡ true = h in cc)
-
-or_right : (a b : Bool) → b ≡ true → (a || b) ≡ true
-or_right true b h = refl
-or_right false b h = h
 
 -- an element that passes, and which makes any test pass that it passes
 some_element : {X : Type 0} (c : X → Bool) (xs : List X) → list_any c xs ≡ true → (x : X) × (c x ≡ true) × ((f : X → Bool) → f x ≡ true → list_any f xs ≡ true)

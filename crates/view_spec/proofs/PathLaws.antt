@@ -1,5 +1,5 @@
 -- Sets of paths, and which paths a view has.
-use Rattle.std.proofs.Common.{◌≡◌, ◌≢◌, Bool, true, false, cond, ◌&&◌, ◌||◌, List, [], ◌∷◌, ◌++◌, map, filter, All, Option, Some, None, Ordering, Less, Equal, Greater, refl, sym, ◌∙◌, ap, subst}
+use Rattle.std.proofs.Common.{◌≡◌, Bool, true, false, cond, ◌&&◌, ◌||◌, List, [], ◌∷◌, map, All, Ordering, Less, Equal, Greater, refl, sym, ◌∙◌, ap}
 use Rattle.std.specs.Prelude.{not, fold}
 use Rattle.std.specs.BTreeSet.{insert_key}
 use Rattle.std.specs.Cmp.{IsTotalOrder}
@@ -9,33 +9,17 @@ use Rattle.std.specs.Ordering.{is_eq, match_ordering, ordering_reverse, ordering
 use Rattle.std.proofs.lemmas.List.Elements.{All-from_recursion, All-head, All-tail}
 use Rattle.std.proofs.lemmas.List.Folds.{list_any-append}
 use Rattle.std.proofs.lemmas.Map.Lookups.{CmpEqualImpliesEq}
+use Rattle.plain_data.specs.Lists.{is_empty}
 use Rattle.cell_core.specs.declared.cell.Cell.{Cell}
 use Rattle.cell_core.specs.Cells.{cell_order, same_cell}
 use Rattle.row_batch.specs.declared.batch.Pair.{Pair}
 use Rattle.view_types.specs.declared.key.ViewKey.TheVariants.{Group}
-use Rattle.view_types.proofs.KeyOrder.{exact, total, same_key_is_equal, same_key_itself, equal_from_is_eq}
+use Rattle.view_types.proofs.KeyOrder.{exact, total, same_key_is_equal, same_key_itself}
 use Rattle.plan_types.specs.declared.plan.Plan.{Plan}
-use Rattle.view_spec.specs.Filters.{is_empty}
+use Rattle.delta_core.proofs.KeySetLemmas.{or_again, or_assoc, or_comm}
 use Rattle.view_spec.specs.Entries.{is_there}
 use Rattle.view_spec.specs.Members.{group_of, is_member, members, paths}
 use Rattle.view_spec.specs.Paths.{begins_with, path_order, path_set, prefixes, same_path}
-
--- ---- either
-
-or_comm : (a b : Bool) → (a || b) ≡ (b || a)
-or_comm true true = refl
-or_comm true false = refl
-or_comm false true = refl
-or_comm false false = refl
-
-or_assoc : (a b c : Bool) → ((a || b) || c) ≡ (a || (b || c))
-or_assoc true b c = refl
-or_assoc false b c = refl
-
-or_again : (a b : Bool) → (a || b) ≡ ((a || b) || a)
-or_again true b = refl
-or_again false true = refl
-or_again false false = refl
 
 -- ---- sets by an order
 

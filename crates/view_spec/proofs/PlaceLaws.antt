@@ -1,12 +1,8 @@
 -- The order of places, and the places of different keys.
-use Rattle.std.proofs.Common.{◌≡◌, ◌≢◌, ℕ, suc, ◌+◌, Bool, true, false, ◌&&◌, List, [], ◌∷◌, ◌++◌, map, length, All, Option, Some, None, Ordering, Less, Equal, Greater, refl, sym, ◌∙◌, ap, subst, length-append, append_assoc, arith}
-use Rattle.std.specs.Cmp.{IsTotalOrder}
-use Rattle.std.specs.Cmp.Lexicographic.{lists_total}
-use Rattle.std.specs.Ordering.{is_eq, ordering_reverse, ordering_then}
+use Rattle.std.proofs.Common.{◌≡◌, ◌≢◌, ℕ, ◌+◌, Bool, List, [], ◌∷◌, ◌++◌, map, length, All, Option, Some, None, refl, sym, ◌∙◌, ap, length-append, append_assoc, arith}
 use Rattle.std.proofs.lemmas.List.{append-nil, length-map}
 use Rattle.std.proofs.lemmas.List.Elements.{All-head, All-nil, All-cons, All-tail, All-weaker}
 use Rattle.view_spec.specs.Members.{members}
-use Rattle.value_core.specs.ValueLaws.{value_order_total, value_order-exact}
 use Rattle.value_core.specs.declared.value.Value.{Value}
 use Rattle.value_core.specs.declared.value.Value.TheVariants as value
 use Rattle.cell_core.specs.Cells.{value_of}
@@ -78,7 +74,7 @@ place_of_row-exact plan a b h =
 
 -- ---- groups
 
-never : {X : Type 0} (xs zs : List X) (y : X) → [] ≢ (xs ++ y ∷ []) ++ zs
+pub never : {X : Type 0} (xs zs : List X) (y : X) → [] ≢ (xs ++ y ∷ []) ++ zs
 never [] zs y h = cc
 never (x ∷ xs) zs y h = cc
 

@@ -1,9 +1,10 @@
 -- Where no count is shown, a group's cells depend on its members alone, and not on the splits that others have.
-use Rattle.std.proofs.Common.{◌≡◌, ℕ, Bool, true, false, cond, ◌&&◌, ◌||◌, List, [], ◌∷◌, map, filter, All, Option, Some, None, Ordering, refl, sym, ◌∙◌, ap, subst}
+use Rattle.std.proofs.Common.{◌≡◌, ℕ, Bool, true, false, cond, ◌&&◌, ◌||◌, List, [], ◌∷◌, map, filter, All, Option, None, Ordering, refl, sym, ◌∙◌, ap, subst}
 use Rattle.std.specs.Cmp.{IsTotalOrder, Equal-is, eq_by_cmp_equiv}
 use Rattle.std.specs.List.{list_any}
 use Rattle.std.specs.List.Sorted.{IsStrictlySortedBy}
-use Rattle.std.specs.Ordering.{eq_by_cmp, is_eq}
+use Rattle.std.specs.Ordering.{eq_by_cmp}
+use Rattle.std.proofs.lemmas.Bool.{or_right}
 use Rattle.std.proofs.lemmas.List.Elements.{All-nil, All-cons, All-head, All-tail, All-weaker}
 use Rattle.std.proofs.lemmas.List.Kept.{IsStrictlySortedBy-filter}
 use Rattle.std.proofs.lemmas.Map.Lookups.{CmpEqualImpliesEq}
@@ -25,7 +26,7 @@ use Rattle.agg_core.specs.Aggregates.{aggregate}
 use Rattle.agg_core.specs.Fractions.{fraction_over, ratio_where}
 use Rattle.view_spec.specs.Cells.{cells_of_group, text_at, with_columns, with_splits, with_value}
 use Rattle.view_spec.specs.Columns.{aggregate_at, is_flat}
-use Rattle.view_spec.specs.Entries.{entry, group_entry}
+use Rattle.view_spec.specs.Entries.{group_entry}
 use Rattle.view_spec.specs.Kept.{kept}
 use Rattle.view_spec.specs.Members.{is_member, members, split_of, splits, splits_by, within}
 use Rattle.view_spec.specs.Paths.{path_order, path_set, prefixes, same_path}
@@ -103,10 +104,6 @@ holds_among e one P (k ∷ ks) q in_it all = at_side (e q k) refl in_it (λ late
     at_side : (b : Bool) → e q k ≡ b → (b || list_any (e q) ks) ≡ true → (list_any (e q) ks ≡ true → P q) → P q
     at_side true is h more = subst P (sym (one q k is)) (All-head P k ks all)
     at_side false is h more = more h
-
-or_right : (a b : Bool) → b ≡ true → (a || b) ≡ true
-or_right true b h = refl
-or_right false b h = h
 
 all_among : {K : Type 0} (e : K → K → Bool) → ((x : K) → e x x ≡ true) → (ks : List K) → All (λ k. list_any (e k) ks ≡ true) ks
 all_among e itself [] = All-nil (λ k. list_any (e k) [] ≡ true)

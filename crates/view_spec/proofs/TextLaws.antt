@@ -1,5 +1,5 @@
 -- Under which texts a group has a value; and a new split, where a count is shown, gives each group a value more.
-use Rattle.std.proofs.Common.{◌≡◌, ℕ, Bool, true, false, ◌&&◌, ◌||◌, cond, List, [], ◌∷◌, map, Option, Some, None, is_some, Ordering, Less, Equal, Greater, refl, sym, ◌∙◌, ap}
+use Rattle.std.proofs.Common.{◌≡◌, ℕ, Bool, true, false, ◌&&◌, ◌||◌, List, [], ◌∷◌, Option, Some, None, is_some, Ordering, Less, Equal, Greater, refl, sym, ◌∙◌, ap}
 use Rattle.std.specs.BTreeMap.{insert_entry}
 use Rattle.std.specs.Cmp.Lexicographic.{slice_cmp}
 use Rattle.std.specs.List.{list_any}
@@ -14,25 +14,11 @@ use Rattle.plan_types.specs.declared.aggregate.AggName.TheVariants as name
 use Rattle.plan_types.specs.declared.plan.Plan.{Plan}
 use Rattle.agg_core.specs.Aggregates.{aggregate}
 use Rattle.view_types.proofs.KeyOrder.{exact_lists}
+use Rattle.delta_core.proofs.KeySetLemmas.{or_again, or_assoc, or_comm}
 use Rattle.view_spec.specs.Cells.{cells_of_group, text_at, with_columns, with_splits, with_value}
 use Rattle.view_spec.specs.Members.{within}
 use Rattle.view_spec.specs.Places.{rows_value}
 use Rattle.view_spec.specs.Steps.{counts_rows}
-
-or_comm : (a b : Bool) → (a || b) ≡ (b || a)
-or_comm true true = refl
-or_comm true false = refl
-or_comm false true = refl
-or_comm false false = refl
-
-or_assoc : (a b c : Bool) → ((a || b) || c) ≡ (a || (b || c))
-or_assoc true b c = refl
-or_assoc false b c = refl
-
-or_again : (a b : Bool) → (a || b) ≡ ((a || b) || a)
-or_again true b = refl
-or_again false true = refl
-or_again false false = refl
 
 -- a text passes and has a value
 abbrev pub has_text : (List ℕ → Bool) → List (List ℕ × Value) → Bool

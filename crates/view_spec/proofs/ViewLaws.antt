@@ -1,23 +1,22 @@
 -- What a view shows stands strictly ascending by place, and what stands under a key is told from the key.
-use Rattle.std.proofs.Common.{◌≡◌, ◌≢◌, ◌<◌, Bool, true, false, cond, ◌&&◌, ◌||◌, List, [], ◌∷◌, map, filter, get_or, All, Option, Some, None, Ordering, Less, Equal, Greater, refl, sym, ◌∙◌, ap, subst}
-use Rattle.std.specs.Cmp.{IsTotalOrder, Equal-is, eq_by_cmp_equiv}
+use Rattle.std.proofs.Common.{◌≡◌, ◌≢◌, Bool, true, false, cond, ◌&&◌, ◌||◌, List, [], ◌∷◌, map, filter, All, Option, Some, None, Ordering, Less, refl, sym, ◌∙◌, ap, subst}
+use Rattle.std.specs.Cmp.{IsTotalOrder, eq_by_cmp_equiv}
 use Rattle.std.specs.List.{AllByRecursion, IsDistinct, find, flat_map, list_any}
 use Rattle.std.specs.List.Sorted.{IsStrictlySortedBy}
 use Rattle.std.specs.Option.{option_map}
 use Rattle.std.specs.Ordering.{eq_by_cmp, is_eq}
+use Rattle.std.proofs.lemmas.Bool.{false_from_ne_true}
 use Rattle.std.proofs.lemmas.List.Elements.{All-head, All-tail}
 use Rattle.std.proofs.lemmas.List.Kept.{IsStrictlySortedBy-filter}
 use Rattle.plain_data.specs.Distinct.{AreDistinct}
-use Rattle.plain_data.specs.Sorting.{sorted_by}
-use Rattle.cell_core.specs.Cells.{cell_order, same_cell}
+use Rattle.cell_core.specs.Cells.{same_cell}
 use Rattle.cell_core.specs.declared.cell.Cell.{Cell}
 use Rattle.cell_core.specs.declared.schema.Column.{Column}
-use Rattle.cell_core.proofs.CellOrder.{exact}
 use Rattle.row_batch.specs.Batches.{pair_of}
 use Rattle.row_batch.specs.Changes.{row_at}
 use Rattle.row_batch.specs.Tables.{keys_of_rows}
 use Rattle.row_batch.specs.declared.batch.Pair.{Pair}
-use Rattle.row_batch.proofs.Lookups.{same_decides, not_same}
+use Rattle.row_batch.proofs.Lookups.{same_decides}
 use Rattle.view_types.specs.Keys.{same_key}
 use Rattle.view_types.specs.declared.key.ViewKey.{ViewKey}
 use Rattle.view_types.specs.declared.key.ViewKey.TheVariants.{Row, Group}
@@ -25,13 +24,11 @@ use Rattle.view_types.proofs.KeyOrder as keys
 use Rattle.delta_core.specs.Rows.{at_key}
 use Rattle.plan_types.specs.declared.plan.Plan.{Plan}
 use Rattle.view_spec.specs.Columns.{is_flat}
-use Rattle.view_spec.specs.Entries.{entry, group_entry, is_there, kept_at, row_entry, where_it}
+use Rattle.view_spec.specs.Entries.{entry, group_entry, kept_at, row_entry, where_it}
 use Rattle.view_spec.specs.Kept.{by_key, full_pair, is_kept, kept}
 use Rattle.view_spec.specs.Members.{group_of, paths}
 use Rattle.view_spec.specs.Openings.{Opening, is_visible}
 use Rattle.view_spec.specs.Paths.{path_order, prefixes, same_path}
-use Rattle.place_order.specs.Places.{place_order}
-use Rattle.view_spec.specs.Places.{place_of_group, place_of_row}
 use Rattle.view_spec.specs.Touching.{key_of}
 use Rattle.view_spec.specs.declared.placed.PlacedRow.{PlacedRow}
 use Rattle.view_spec.specs.Views.{Side, by_place, entries, placed, placed_group, placed_row}
@@ -65,10 +62,6 @@ unfolding IsStrictlySortedBy IsDistinct
 ascending_differ R [] h = tt
 ascending_differ R (x ∷ xs) h = (apart_less R x xs h.0, ascending_differ R xs h.1)
 
-false_unless : (b : Bool) → (b ≡ true → ⊥) → b ≡ false
-false_unless true never = absurd (never refl)
-false_unless false never = refl
-
 -- ---- kept rows and paths are told apart
 
 pub kept_differ : (plan : Plan) (ps : List Pair) → AreDistinct (keys_of_rows ps) → IsDistinct (eq_by_cmp by_key) (kept plan ps)
@@ -91,14 +84,14 @@ by_place-total = record {
 
 pub rows_differ : (columns : List Column) (plan : Plan) (a b : Pair) → eq_by_cmp by_key a b ≡ false → eq_by_cmp by_place (placed_row columns plan a) (placed_row columns plan b) ≡ false
 rows_differ columns plan a b h =
-    false_unless (eq_by_cmp by_place (placed_row columns plan a) (placed_row columns plan b))
+    false_from_ne_true (eq_by_cmp by_place (placed_row columns plan a) (placed_row columns plan b))
     (λ same. let one : a.key ≡ b.key = place_of_row-exact plan a b (place_order-exact _ _ (is_equal _ same)) in
     let wrong : false ≡ true = sym h ∙ (same_decides a.key b.key).1 one in cc)
 
 groups_differ : (columns : List Column) (plan : Plan) (opening : Opening) (rows : List Pair) (p q : List Cell) → eq_by_cmp path_order p q ≡ false
     → eq_by_cmp by_place (placed_group columns plan opening rows p) (placed_group columns plan opening rows q) ≡ false
 groups_differ columns plan opening rows p q h =
-    false_unless (eq_by_cmp by_place (placed_group columns plan opening rows p) (placed_group columns plan opening rows q))
+    false_from_ne_true (eq_by_cmp by_place (placed_group columns plan opening rows p) (placed_group columns plan opening rows q))
     (λ same. let one : p ≡ q = place_of_group-exact columns plan rows p q (place_order-exact _ _ (is_equal _ same)) in
     let wrong : false ≡ true = sym h ∙ subst (λ r. same_path p r ≡ true) one (same_path_itself p) in cc)
 
@@ -155,7 +148,7 @@ gone plan key [] h = refl
 gone plan key (p ∷ ps) h = by (is_kept plan (full_pair plan p)) (gone plan key ps (All-tail (λ k. k ≢ key) p.key (keys_of_rows ps) h))
   where
     apart : same_cell p.key key ≡ false
-    apart = false_unless (same_cell p.key key) (λ same. All-head (λ k. k ≢ key) p.key (keys_of_rows ps) h ((same_decides p.key key).0 same))
+    apart = false_from_ne_true (same_cell p.key key) (λ same. All-head (λ k. k ≢ key) p.key (keys_of_rows ps) h ((same_decides p.key key).0 same))
 
     by : (b : Bool) → find (λ (p : Pair). same_cell p.key key) (filter (is_kept plan) (map (full_pair plan) ps)) ≡ None
         → find (λ (p : Pair). same_cell p.key key) (cond b (full_pair plan p ∷ filter (is_kept plan) (map (full_pair plan) ps)) (filter (is_kept plan) (map (full_pair plan) ps))) ≡ None

@@ -1,5 +1,5 @@
 -- Worked views: what the definitions say of them, computed.
-use Rattle.std.proofs.Common.{◌≡◌, ℕ, ℤ, pos, Bool, true, false, List, [], ◌∷◌, map, Some, None, refl}
+use Rattle.std.proofs.Common.{◌≡◌, ℕ, ℤ, pos, Bool, true, false, List, [], ◌∷◌, map, refl}
 use Rattle.std.specs.Prelude.{codes}
 use Rattle.value_core.specs.Values.{value_order}
 use Rattle.value_core.specs.declared.value.Value.{Value}
@@ -14,19 +14,14 @@ use Rattle.cell_core.specs.declared.schema.Column.{Column}
 use Rattle.row_batch.specs.Batches.{pair_of}
 use Rattle.row_batch.specs.declared.batch.Pair.{Pair}
 use Rattle.plan_types.specs.declared.aggregate.AggName.TheVariants as name
-use Rattle.plan_types.specs.declared.plan.Filter.{Filter}
 use Rattle.plan_types.specs.declared.plan.FilterTest.{FilterTest}
 use Rattle.plan_types.specs.declared.plan.FilterTest.TheVariants as test
-use Rattle.plan_types.specs.declared.plan.Named.{Named}
 use Rattle.plan_types.specs.declared.plan.Plan.{Plan}
-use Rattle.plan_types.specs.declared.plan.Sort.{Sort}
-use Rattle.view_types.specs.declared.key.ViewKey.{ViewKey}
 use Rattle.view_types.specs.declared.key.ViewKey.TheVariants.{Row, Group}
 use Rattle.view_types.specs.declared.shown.HeaderColumn.{HeaderColumn}
-use Rattle.view_types.specs.declared.shown.Shown.{Shown}
 use Rattle.view_types.specs.declared.shown.ShownRow.{ShownRow}
 use Rattle.view_types.specs.declared.shown.ShownType.TheVariants.{Integer}
-use Rattle.delta_core.specs.Deltas.{marked, puts_from, removed_keys}
+use Rattle.delta_core.specs.Deltas.{puts_from}
 use Rattle.delta_core.specs.declared.delta.Put.{Put}
 use Rattle.view_spec.specs.Openings.{Opening, first_opening}
 use Rattle.view_spec.specs.Views.{Side, view}

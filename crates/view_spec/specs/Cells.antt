@@ -1,5 +1,5 @@
 -- What is shown of a group or a row, each value under its column's text.
-use Rattle.std.specs.Prelude.{◌≡◌, ℕ, ◌==◌, List, [], ◌∷◌, ◌++◌, map, fold, codes, Bool, true, false, ◌||◌, Option, Some, None, if◌then◌else◌}
+use Rattle.std.specs.Prelude.{◌≡◌, ℕ, ◌==◌, List, [], ◌∷◌, ◌++◌, map, codes, Bool, true, false, ◌||◌, Option, Some, None, if◌then◌else◌}
 use Rattle.std.specs.Fmt.{signed_decimal}
 use Rattle.std.specs.List.{flat_map}
 use Rattle.value_core.specs.declared.value.Value.{Value}
@@ -14,7 +14,7 @@ use Rattle.plan_types.specs.declared.plan.Plan.{Plan}
 use Rattle.view_types.specs.Cells.{put_cell}
 use Rattle.view_types.specs.declared.shown.HeaderColumn.{HeaderColumn}
 use Rattle.view_spec.specs.Columns.{column_at, shown_kind}
-use Rattle.view_spec.specs.Members.{members, split_of, within}
+use Rattle.view_spec.specs.Members.{split_of, within}
 use Rattle.view_spec.specs.Places.{row_value, rows_value}
 
 -- ---- texts

@@ -1,6 +1,7 @@
 -- What stands under one key of a view, told from the key.
-use Rattle.std.specs.Prelude.{List, Bool, true, false, not, ◌&&◌, ◌||◌, Option, Some, None, option_map, if◌then◌else◌}
+use Rattle.std.specs.Prelude.{List, Bool, ◌&&◌, ◌||◌, Option, Some, None, option_map, if◌then◌else◌}
 use Rattle.std.specs.List.{list_any}
+use Rattle.plain_data.specs.Lists.{is_empty}
 use Rattle.cell_core.specs.declared.cell.Cell.{Cell}
 use Rattle.row_batch.specs.Batches.{pair_of}
 use Rattle.row_batch.specs.Changes.{row_at}
@@ -9,7 +10,6 @@ use Rattle.plan_types.specs.declared.plan.Plan.{Plan}
 use Rattle.view_types.specs.declared.key.ViewKey.{ViewKey}
 use Rattle.view_types.specs.declared.key.ViewKey.TheVariants.{Row, Group}
 use Rattle.view_spec.specs.Columns.{is_flat}
-use Rattle.view_spec.specs.Filters.{is_empty}
 use Rattle.view_spec.specs.Kept.{full_pair, is_kept, kept}
 use Rattle.view_spec.specs.Members.{is_member}
 use Rattle.view_spec.specs.Openings.{is_visible}

@@ -1,7 +1,8 @@
 -- Which rows filters keep.
-use Rattle.std.specs.Prelude.{ℕ, nat_eq, List, [], ◌∷◌, Bool, true, false, not, ◌&&◌, ◌||◌, slice_index_or, if◌then◌else◌}
+use Rattle.std.specs.Prelude.{ℕ, nat_eq, List, Bool, true, false, not, ◌||◌, slice_index_or, if◌then◌else◌}
 use Rattle.std.specs.List.{list_all, list_any, starts_with, ends_with}
 use Rattle.std.specs.Ordering.{is_eq, is_ne, is_lt, is_le, is_gt, is_ge}
+use Rattle.plain_data.specs.Lists.{is_empty}
 use Rattle.cell_core.specs.Cells.{cell_order, same_cell}
 use Rattle.cell_core.specs.declared.cell.Cell.{Cell}
 use Rattle.cell_core.specs.declared.cell.Cell.TheVariants.{Null, Words}
@@ -15,10 +16,6 @@ use Rattle.plan_types.specs.declared.plan.FilterTest.TheVariants as test
 -- the cell of a column; a row has no cell past its last
 abbrev pub cell_in : List Cell → ℕ → Cell
 cell_in row column = slice_index_or row column Null
-
-abbrev pub is_empty : {X : Type 0} → List X → Bool
-is_empty [] = true
-is_empty (x ∷ xs) = false
 
 abbrev pub on_words : (List ℕ → Bool) → Cell → Bool
 on_words passes (Words s) = passes s

@@ -24,7 +24,7 @@ use Rattle.view_spec.specs.Kept.{kept}
 use Rattle.view_spec.specs.Members.{members, splits}
 use Rattle.view_spec.specs.Paths.{same_path}
 use Rattle.view_spec.specs.Steps.{KeepsRanks, PassesGroup, ShowsCount, ShowsNoCount, changed_side}
-use Rattle.view_spec.specs.Touching.{is_touched, key_of, same_found}
+use Rattle.view_spec.specs.Touching.{is_touched, key_of}
 use Rattle.view_spec.specs.Views.{Side, by_place, placed, view}
 
 -- the rows under each key once

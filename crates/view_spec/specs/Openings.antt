@@ -1,5 +1,5 @@
 -- Which groups are open, and which are shown.
-use Rattle.std.specs.Prelude.{ℕ, nat_lt, List, [], ◌∷◌, ◌++◌, length, Bool, true, false, ◌&&◌, unwrap_or}
+use Rattle.std.specs.Prelude.{ℕ, nat_lt, List, [], ◌∷◌, ◌++◌, length, Bool, true, ◌&&◌, unwrap_or}
 use Rattle.std.specs.Map.{lookup}
 use Rattle.cell_core.specs.declared.cell.Cell.{Cell}
 use Rattle.plan_types.specs.declared.plan.Plan.{Plan}

@@ -1,20 +1,13 @@
 -- The places at which rows are shown.
-use Rattle.std.specs.Prelude.{ℕ, List, [], ◌∷◌, ◌++◌, map, Option, Some, None, ℤ, pos, negsuc, unsigned_abs}
-use Rattle.std.specs.Cmp.Lexicographic.{slice_cmp}
-use Rattle.std.specs.declared.cmp.Ordering.{Ordering}
-use Rattle.std.specs.declared.cmp.Ordering.TheVariants.{Less, Equal, Greater}
-use Rattle.value_core.specs.Values.{value_order}
+use Rattle.std.specs.Prelude.{ℕ, List, [], ◌∷◌, ◌++◌, map, Option}
 use Rattle.value_core.specs.declared.value.Value.{Value}
-use Rattle.value_core.specs.declared.value.Value.TheVariants.{Whole}
 use Rattle.agg_core.specs.Aggregates.{aggregate}
 use Rattle.cell_core.specs.Cells.{value_of}
 use Rattle.cell_core.specs.declared.cell.Cell.{Cell}
-use Rattle.cell_core.specs.declared.cell.Direction.{Direction}
 use Rattle.cell_core.specs.declared.cell.Direction.TheVariants as direction
 use Rattle.cell_core.specs.declared.schema.Column.{Column}
 use Rattle.row_batch.specs.declared.batch.Pair.{Pair}
 use Rattle.plan_types.specs.declared.plan.Plan.{Plan}
-use Rattle.plan_types.specs.declared.plan.Sort.{Sort}
 use Rattle.place_order.specs.Places.{rank}
 use Rattle.place_order.specs.declared.rank.Rank.{Rank}
 use Rattle.place_order.specs.declared.rank.Rank.TheVariants.{Asc}

@@ -6,6 +6,7 @@ use Rattle.std.proofs.lemmas.Map.Lookups.{CmpEqualImpliesEq}
 use Rattle.std.specs.Cmp.{IsTotalOrder, eq_by_cmp_equiv}
 use Rattle.std.specs.Cmp.Lexicographic.{slice_cmp}
 use Rattle.std.specs.Ordering.{is_eq, ordering_reverse, ordering_then}
+use Rattle.value_core.specs.ValueLaws.{then_left, then_right}
 use Rattle.cell_core.proofs.CellOrder as cells
 use Rattle.cell_core.specs.contracts.cell.CellOrd.TheImpl as by_cell
 use Rattle.cell_core.specs.Cells.{cell_order}
@@ -22,23 +23,13 @@ lists_by R S same [] (y ∷ ys) = refl
 lists_by R S same (x ∷ xs) [] = refl
 lists_by R S same (x ∷ xs) (y ∷ ys) = λ i. ordering_then (same x y i) (lists_by R S same xs ys i)
 
-then_first : (a b : Ordering) → ordering_then a b ≡ Equal → a ≡ Equal
-then_first Less b h = cc
-then_first Equal b h = refl
-then_first Greater b h = cc
-
-then_second : (a b : Ordering) → ordering_then a b ≡ Equal → b ≡ Equal
-then_second Less b h = cc
-then_second Equal b h = h
-then_second Greater b h = cc
-
 pub exact_lists : {X : Type 0} (R : X → X → Ordering) → CmpEqualImpliesEq R → CmpEqualImpliesEq (slice_cmp R)
 exact_lists R each [] [] h = refl
 exact_lists R each [] (y ∷ ys) h = absurd (let wrong : Less ≡ Equal = h in cc)
 exact_lists R each (x ∷ xs) [] h = absurd (let wrong : Greater ≡ Equal = h in cc)
 exact_lists R each (x ∷ xs) (y ∷ ys) h =
-    let first : x ≡ y = each x y (then_first (R x y) (slice_cmp R xs ys) h) in
-    let rest : xs ≡ ys = exact_lists R each xs ys (then_second (R x y) (slice_cmp R xs ys) h) in
+    let first : x ≡ y = each x y (then_left (R x y) (slice_cmp R xs ys) h) in
+    let rest : xs ≡ ys = exact_lists R each xs ys (then_right (R x y) (slice_cmp R xs ys) h) in
     λ i. first i ∷ rest i
 
 -- ---- keys

@@ -1,4 +1,4 @@
-use Rattle.std.proofs.Common.{◌≡◌, [], None, refl, sym, ap, ◌∙◌}
+use Rattle.std.proofs.Common.{[], refl, sym, ap, ◌∙◌}
 use mathlib.Core.Logic.{⊎_elim}
 use Rattle.agg_core.specs.Aggregates.{aggregate}
 use Rattle.agg_core.proofs.Fractions.{mean-none}

@@ -1,7 +1,7 @@
 use Rattle.std.proofs.Common.{◌≡◌, drop}
 use Rattle.serde_json.specs.View.{items_view}
 use Rattle.frame_json.specs.Requests.{columns_of}
-use Rattle.frame_json.proofs.Fronts.{with_front}
+use Rattle.plan_json.proofs.Fronts.{with_front}
 use Rattle.frame_json.proofs.member.columns_in.Given as goal
 
 abbrev pub invariant-loop-value : goal.invariant-loop-value

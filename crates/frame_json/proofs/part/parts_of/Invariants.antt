@@ -1,7 +1,7 @@
 use Rattle.std.proofs.Common.{◌≡◌, drop}
 use Rattle.serde_json.specs.View.{items_view}
 use Rattle.frame_json.specs.Parts.{parts_of}
-use Rattle.frame_json.proofs.Fronts.{with_front}
+use Rattle.plan_json.proofs.Fronts.{with_front}
 use Rattle.frame_json.proofs.part.parts_of.Given as goal
 
 abbrev pub invariant-loop-value : goal.invariant-loop-value

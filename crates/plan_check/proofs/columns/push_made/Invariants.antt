@@ -1,5 +1,5 @@
 use Rattle.std.proofs.Common.{◌≡◌, ◌++◌, map, take}
-use Rattle.plan_check.specs.Columns.{expression_column}
+use Rattle.plan_types.specs.Columns.{expression_column}
 use Rattle.plan_check.proofs.columns.push_made.Given as goal
 
 abbrev pub invariant-loop-expression : goal.invariant-loop-expression

@@ -1,4 +1,4 @@
-use Rattle.std.proofs.Common.{◌≡◌, [], codes, map, refl, sym, ap, ◌∙◌}
+use Rattle.std.proofs.Common.{codes, map, ap, ◌∙◌}
 use Rattle.plan_json.specs.Plans.{filter_view}
 use Rattle.plan_json.specs.Writing.{raw_items, raw_of_filter, raw_of_names, raw_of_sort}
 use Rattle.cell_core.specs.RawData.{raw_map}
