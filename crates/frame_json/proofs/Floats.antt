@@ -165,6 +165,7 @@ members-free (body.Queued port seq) = (refl, (refl, tt))
 members-free (body.Applied port seq) = (refl, (refl, tt))
 members-free (body.AppliedLosing lost port seq) = (lost-free lost, (refl, (refl, tt)))
 members-free (body.Opened edit shown view) = (header-free shown.header, (rows-free shown.rows, (refl, (refl, tt))))
+members-free (body.Edited edit view) = (refl, (refl, tt))
 members-free (body.Delta delta view) = (refl, (refl, (refl, (puts-free delta.puts, (keys-free delta.removed, header-given delta.header)))))
 members-free (body.Resync bound edit shown view) = (header-free shown.header, (rows-free shown.rows, (refl, (refl, (refl, tt)))))
 members-free (body.Rows edit first shown size view) =

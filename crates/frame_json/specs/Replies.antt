@@ -196,6 +196,7 @@ form_of (body.Queued port seq) = codes "queued"
 form_of (body.Applied port seq) = codes "applied"
 form_of (body.AppliedLosing lost port seq) = codes "applied_losing"
 form_of (body.Opened edit shown view) = codes "opened"
+form_of (body.Edited edit view) = codes "edited"
 form_of (body.Delta delta view) = codes "delta"
 form_of (body.Resync bound edit shown view) = codes "resync"
 form_of (body.Rows edit first shown size view) = codes "rows"
@@ -214,6 +215,7 @@ members_of (body.Applied port seq) = numbers_named ((codes "port", port) ∷ (co
 members_of (body.AppliedLosing lost port seq) =
     (codes "lost", lost_data lost) ∷ numbers_named ((codes "port", port) ∷ (codes "seq", seq) ∷ [])
 members_of (body.Opened edit shown view) = shown_members shown ++ numbers_named ((codes "edit", edit) ∷ (codes "view", view) ∷ [])
+members_of (body.Edited edit view) = numbers_named ((codes "edit", edit) ∷ (codes "view", view) ∷ [])
 members_of (body.Delta delta view) = (codes "view", natural view) ∷ delta_members delta
 members_of (body.Resync bound edit shown view) =
     shown_members shown ++ numbers_named ((codes "bound", bound) ∷ (codes "edit", edit) ∷ (codes "view", view) ∷ [])

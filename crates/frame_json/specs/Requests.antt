@@ -124,12 +124,12 @@ rows_of ms =
 abbrev pub take_of : Members → Option Ask
 take_of ms = option_and_then (λ v. option_map (λ w. ask.take v w) (wait_of (get_member (codes "wait") ms))) (view_of ms)
 
+abbrev pub edit_of : Members → Option Ask
+edit_of ms = option_and_then (λ v. option_map (λ p. ask.edit_view v (raw_data p)) (get_member (codes "plan") ms)) (view_of ms)
+
 -- a form that isn't built yet, once its members are of their forms
 abbrev pub unbuilt : {X : Type 0} → Option X → Option Ask
 unbuilt members = option_map (λ m. ask.unread cause.Unbuilt) members
-
-abbrev pub edit_of : Members → Option Ask
-edit_of ms = unbuilt (option_and_then (λ v. get_member (codes "plan") ms) (view_of ms))
 
 abbrev pub depth_of : Members → Option Ask
 depth_of ms = unbuilt (option_and_then (λ v. option_and_then (up_to max_depth) (natural (codes "depth") ms)) (view_of ms))

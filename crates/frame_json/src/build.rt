@@ -131,6 +131,7 @@ impl Builder {
                 self.shown(shown)?;
                 self.numbers(&[("edit", *edit), ("view", *view)])
             }
+            Body::Edited { edit, view } => self.numbers(&[("edit", *edit), ("view", *view)]),
             Body::Delta { delta, view } => {
                 self.numbers(&[("view", *view)])?;
                 self.delta(delta)
@@ -188,6 +189,7 @@ fn form_of(body: &Body) -> &'static str
         Body::Applied { .. } => "applied",
         Body::AppliedLosing { .. } => "applied_losing",
         Body::Opened { .. } => "opened",
+        Body::Edited { .. } => "edited",
         Body::Delta { .. } => "delta",
         Body::Resync { .. } => "resync",
         Body::Rows { .. } => "rows",

@@ -33,7 +33,7 @@ pub(crate) fn requested(alloc: Global, op: Op, members: Members) -> Result<Optio
         Op::ClosePort => Ok(port_at(&members).map(|port| Request::ClosePort { port })),
         Op::Apply => Ok(port_at(&members).map(|port| Request::Apply { port })),
         Op::Open => open(alloc, members),
-        Op::Edit => Ok(edit(&members)),
+        Op::Edit => edit(alloc, members),
         Op::Depth => Ok(depth(&members)),
         Op::Expand | Op::Collapse => opening(alloc, &members),
         Op::Take => Ok(take(&members)),
@@ -171,12 +171,18 @@ fn take(members: &Members) -> Option<Request>
     Some(Request::Take { view, wait })
 }
 
-fn edit(members: &Members) -> Option<Request>
-    ensures { option_map request_view result ≡ edit_of (members_view members.now.entries) }
+fn edit(alloc: Global, members: Members) -> Result<Option<Request>, Memory>
+    ensures { IfOk result (λ found. option_map request_view found
+        ≡ edit_of (members_view members.entries)) }
 {
-    let _view = view_at(members)?;
-    let _plan = member(members, "plan")?;
-    Some(Request::Unread(FrameCause::Unbuilt))
+    let Some(view) = view_at(&members) else {
+        return Ok(None);
+    };
+    let Some(plan) = taken(members, "plan") else {
+        return Ok(None);
+    };
+    let plan = raw_of(alloc, plan)?;
+    Ok(Some(Request::Edit { view, plan }))
 }
 
 fn depth(members: &Members) -> Option<Request>

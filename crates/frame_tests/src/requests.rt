@@ -18,6 +18,7 @@ fn form(request: &Request) -> &'static str {
         Request::ClosePort { .. } => "close_port",
         Request::Apply { .. } => "apply",
         Request::Open { .. } => "open",
+        Request::Edit { .. } => "edit",
         Request::Take { wait: false, .. } => "take",
         Request::Take { wait: true, .. } => "take, waiting",
         Request::Rows { .. } => "rows",
@@ -45,7 +46,7 @@ fn read(alloc: Global, line: &[u8], scripted: bool) -> Result<(&'static str, u32
 
 #[test]
 fn lines_are_read(rt: HostRuntime) -> Result<(), Fail> {
-    let lines: [(&[u8], &str); 35] = [
+    let lines: [(&[u8], &str); 37] = [
         (
             b"{\"op\":\"table\",\"columns\":[[\"k\",\"integer\"],[\"v\",\"date\"]],\"index\":\"k\"}",
             "table",
@@ -60,6 +61,8 @@ fn lines_are_read(rt: HostRuntime) -> Result<(), Fail> {
         (b"{\"op\":\"close_port\",\"port\":1}", "close_port"),
         (b"{\"op\":\"apply\",\"port\":0}", "apply"),
         (b"{\"op\":\"open\",\"plan\":7,\"bound\":65536}", "open"),
+        (b"{\"op\":\"edit\",\"view\":0,\"plan\":7}", "edit"),
+        (b"{\"op\":\"edit\",\"view\":0}", "member"),
         (
             b" {\"to\":9,\"from\":0,\"view\":3,\"op\":\"rows\"} ",
             "rows",

@@ -21,6 +21,7 @@ pub data Ask : Type 0 where
   close_port : ℕ → Ask
   apply : ℕ → Ask
   open_view : RawData → ℕ → Ask
+  edit_view : ℕ → RawData → Ask
   take : ℕ → Bool → Ask
   rows : ℕ → ℕ → ℕ → Ask
   close : ℕ → Ask
@@ -39,6 +40,7 @@ request_view (request.Clear p) = clear p
 request_view (request.ClosePort p) = close_port p
 request_view (request.Apply p) = apply p
 request_view (request.Open plan bound) = open_view (raw_view plan) bound
+request_view (request.Edit view plan) = edit_view view (raw_view plan)
 request_view (request.Take view wait) = take view wait
 request_view (request.Rows view first end) = rows view first end
 request_view (request.Close view) = close view

@@ -148,6 +148,11 @@ pub enum Body {
         shown: Shown,
         view: u64,
     },
+    /// The view's plan was changed; `edit` counts such changes.
+    Edited {
+        edit: u64,
+        view: u64,
+    },
     /// What changed in the view since the last opening, delta or resynchronisation that was answered for
     /// it.
     Delta {

@@ -71,6 +71,11 @@ pub enum Request {
         plan: Raw,
         bound: u64,
     },
+    /// Changes a view's plan. The plan is judged against the schema.
+    Edit {
+        view: u64,
+        plan: Raw,
+    },
     /// Asks for what changed in a view since the last opening, delta or resynchronisation that was answered
     /// for it. `wait` has no effect on the answer.
     Take {

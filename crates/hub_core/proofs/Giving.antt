@@ -97,6 +97,7 @@ table_stays : (t : TableData) (version : ℕ) (kept : PortsData) (past : List Pa
     → HoldsTable t version past → HoldsPorts kept past
     → HoldsTable t version (with_step session request n at answer past) × HoldsPorts kept (with_step session request n at answer past)
 table_stays t version kept past session n at of request (body.Opened edit shown view) is table ports = (table, ports)
+table_stays t version kept past session n at of request (body.Edited edit view) is table ports = (table, ports)
 table_stays t version kept past session n at of request (body.Delta delta view) is table ports = (table, ports)
 table_stays t version kept past session n at of request (body.Resync bound edit shown view) is table ports = (table, ports)
 table_stays t version kept past session n at of request (body.Rows edit start shown size view) is table ports = (table, ports)

@@ -73,6 +73,9 @@ impl Engine {
                 self.views
                     .open(session, &plan, bound, &self.table, self.version, steps)
             }
+            Request::Edit { view, plan } => {
+                self.views.edit(session, view, &plan, &self.table, steps)
+            }
             Request::Take { view, wait: _ } => self.views.take(session, view, self.version),
             Request::Rows { view, from, to } => self.views.rows(session, view, from, to),
             Request::Close { view } => self.views.close(session, view),

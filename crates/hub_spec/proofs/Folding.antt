@@ -4,9 +4,9 @@ use Rattle.std.specs.Prelude.{is_some, not, unwrap_or, option_and_then}
 use Rattle.std.specs.List.{IsDistinct, list_any}
 use Rattle.std.specs.List.Sorted.{IsStrictlySortedBy}
 use Rattle.std.proofs.lemmas.Bool.{eqb-true, eq-eqb}
-use Rattle.std.proofs.lemmas.List.Elements.{All-nil, All-head, All-tail, All-map, All-weaker, All-push, All-filter}
 use Rattle.std.proofs.lemmas.List.Folds.{list_any-append}
 use Rattle.cell_core.specs.Schemas.{SchemaData}
+use Rattle.cell_core.specs.declared.schema.Column.{Column}
 use Rattle.plain_data.specs.Distinct.{AreDistinct}
 use Rattle.row_batch.specs.Batches.{Store, empty_store}
 use Rattle.row_batch.specs.Tables.{keys_of_rows}
@@ -34,13 +34,13 @@ use Rattle.view_spec.proofs.TouchLaws.{IsPlaced, delta_restores, is_placed, rows
 use Rattle.view_spec.proofs.ViewLaws.{same_keys}
 use Rattle.hub_spec.specs.Past.{PastStep}
 use Rattle.hub_spec.specs.Bases.{base, base_or_none, delta_in, dirty, edit_by, fold_in, folded_after, folded_in, head_dirty, header_differs, is_base, mark_in, no_base, placed_by, placed_in, shown_by, shown_in, tells_of}
-use Rattle.hub_spec.specs.HeldViews.{HeldView, held_view, is_view, lost_at, opened_count, opened_view, shown, side, views, with_opened, with_view}
+use Rattle.hub_spec.specs.HeldViews.{HeldView, edited_at, held_view, is_view, lost_at, opened_count, opened_view, shown, side, views, with_edited, with_opened}
 use Rattle.hub_spec.specs.Histories.{Entry, past_of, answer_to}
 use Rattle.hub_spec.specs.Laws.{DeltasFold}
 use Rattle.hub_spec.specs.Ports.{Applied, batches_applied, version_after}
 use Rattle.hub_spec.specs.Plans.{plan_asked}
 use Rattle.hub_spec.specs.Rows.{put_applied, rows, schema_or_none}
-use Rattle.hub_spec.proofs.Numbering.{IsNumbered, are_new, found_new, numbers_given}
+use Rattle.hub_spec.proofs.Numbering.{IsNumbered, KeepsNames, are_new, edited_name, found_new, lost_name, numbers_given}
 use Rattle.hub_spec.proofs.Said.{Says, says_answer}
 
 -- ---- no key stands twice among the rows
@@ -115,17 +115,19 @@ any_filtered test keeps (v ∷ vs) h = by (keeps v) h (λ more. any_filtered tes
     ]
     by false found later = or_right (test v) (list_any test vs) (later found)
 
-any_lost : (session number at : ℕ) (lost : List (ℕ × ℕ)) (vs : List HeldView) → list_any (is_view session number) (map (lost_at at lost) vs) ≡ list_any (is_view session number) vs
-any_lost session number at lost [] = refl
-any_lost session number at lost (v ∷ vs) = by (list_any (λ (w : ℕ × ℕ). is_view w.0 w.1 v) lost) (ap (λ b. is_view session number v || b) (any_lost session number at lost vs))
-  where
-    Later : Type 0
-    Later = (is_view session number v || list_any (is_view session number) (map (lost_at at lost) vs)) ≡ (is_view session number v || list_any (is_view session number) vs)
+any_changed : (session number : ℕ) (f : HeldView → HeldView) (vs : List HeldView) → KeepsNames f → list_any (is_view session number) (map f vs) ≡ list_any (is_view session number) vs
+any_changed session number f [] keeps = refl
+any_changed session number f (v ∷ vs) keeps = let name = keeps v in rw (name.session, name.number, any_changed session number f vs keeps) refl
 
-    by : (b : Bool) → Later → (is_view session number (cond b (record v { lost = Some at }) v) || list_any (is_view session number) (map (lost_at at lost) vs))
-        ≡ (is_view session number v || list_any (is_view session number) vs)
-    by true later = later
-    by false later = later
+-- and so they are held under the same names
+held_changed : (session number : ℕ) (f : HeldView → HeldView) (vs : List HeldView) → KeepsNames f → Has session number (map f vs) ≡ true → Has session number vs ≡ true
+held_changed session number f vs keeps held =
+    has_is_any (is_view session number) vs ∙ sym (any_changed session number f vs keeps) ∙ sym (has_is_any (is_view session number) (map f vs)) ∙ held
+
+held_edited : (columns : List Column) (session view s number : ℕ) (asked : Result Plan Refusal) (vs : List HeldView) → Has s number (with_edited columns session view asked vs) ≡ true
+    → Has s number vs ≡ true
+held_edited columns session view s number (Ok plan) vs held = held_changed s number (edited_at columns session view plan) vs (edited_name columns session view plan) held
+held_edited columns session view s number (Err why) vs held = held
 
 abbrev step : ℕ → Ask → ℕ → ℕ → Body → PastStep
 step session request n at answer = record { session = session; request = request; reply = record { n = n; version = at; body = answer } }
@@ -148,10 +150,12 @@ held_before : (past : List PastStep) (session n at : ℕ) (request : Ask) (answe
 held_before past session n at (ask.open_view plan bound) (body.Opened edit shown view) s number h =
     opened_before session view bound s number (plan_asked (schema_or_none past) plan) (views past) h
 held_before past session n at request (body.Opened edit shown view) s number h = inr h
+held_before past session n at (ask.edit_view view plan) (body.Edited edit edited) s number h =
+    inr (held_edited (schema_or_none past).columns session view s number (plan_asked (schema_or_none past) plan) (views past) h)
+held_before past session n at request (body.Edited edit edited) s number h = inr h
 held_before past session n at request (body.AppliedLosing lost port seq) s number h =
     let at_loss : ℕ = version_after past (body.AppliedLosing lost port seq) in
-    inr (has_is_any (is_view s number) (views past) ∙ sym (any_lost s number at_loss lost (views past))
-    ∙ sym (has_is_any (is_view s number) (map (lost_at at_loss lost) (views past))) ∙ h)
+    inr (held_changed s number (lost_at at_loss lost) (views past) (lost_name at_loss lost) h)
 held_before past session n at request (body.Closed view) s number h =
     let keeps : HeldView → Bool = λ v. not (is_view session view v) in
     inr (has_is_any (is_view s number) (views past)
@@ -161,48 +165,6 @@ held_before past session n at request (body.Left closed) s number h =
     inr (has_is_any (is_view s number) (views past)
     ∙ any_filtered (is_view s number) keeps (views past) (sym (has_is_any (is_view s number) (filter keeps (views past))) ∙ h))
 held_before past session n at request _ s number h = inr h
-
--- ---- no view was edited
-
-abbrev IsUnedited : HeldView → Type 0
-IsUnedited v = v.edit ≡ 0
-
-unedited_lost : (at : ℕ) (lost : List (ℕ × ℕ)) (vs : List HeldView) → All IsUnedited vs → All IsUnedited (map (lost_at at lost) vs)
-unedited_lost at lost vs all = All-map IsUnedited (lost_at at lost) vs (All-weaker IsUnedited (λ v. IsUnedited (lost_at at lost v)) one vs all)
-  where
-    one : (v : HeldView) → IsUnedited v → IsUnedited (lost_at at lost v)
-    one v h = by (list_any (λ (w : ℕ × ℕ). is_view w.0 w.1 v) lost)
-      where
-        by : (b : Bool) → IsUnedited (cond b (record v { lost = Some at }) v)
-        by true = h
-        by false = h
-
-unedited_opened : (session number bound : ℕ) (asked : Result Plan Refusal) (vs : List HeldView) → All IsUnedited vs → All IsUnedited (with_opened session number bound asked vs)
-unedited_opened session number bound (Ok plan) vs all = All-push IsUnedited vs (opened_view session number plan bound) all refl
-unedited_opened session number bound (Err why) vs all = all
-
-unedited_step : (past : List PastStep) (session : ℕ) (answer : Body) (request : Ask) (vs : List HeldView) → All IsUnedited vs → All IsUnedited (with_view past session answer request vs)
-unedited_step past session (body.Opened edit shown view) (ask.open_view plan bound) vs all = unedited_opened session view bound (plan_asked (schema_or_none past) plan) vs all
-unedited_step past session (body.Opened edit shown view) request vs all = all
-unedited_step past session (body.AppliedLosing lost port seq) request vs all = unedited_lost (version_after past (body.AppliedLosing lost port seq)) lost vs all
-unedited_step past session (body.Closed view) request vs all = All-filter (λ v. not (is_view session view v)) IsUnedited vs all
-unedited_step past session (body.Left closed) request vs all = All-filter (λ v. not (eqb v.session session)) IsUnedited vs all
-unedited_step past session _ request vs all = all
-
-unedited : (past : List PastStep) → All IsUnedited (views past)
-unedited [] = All-nil IsUnedited
-unedited (d ∷ past) = unedited_step past d.session d.reply.body d.request (views past) (unedited past)
-
-edit_of_found : (test : HeldView → Bool) (vs : List HeldView) → All IsUnedited vs → edit_by (find test vs) ≡ 0
-edit_of_found test [] all = refl
-edit_of_found test (v ∷ vs) all = by (test v) (edit_of_found test vs (All-tail IsUnedited v vs all))
-  where
-    by : (b : Bool) → edit_by (find test vs) ≡ 0 → edit_by (cond b (Some v) (find test vs)) ≡ 0
-    by true later = All-head IsUnedited v vs all
-    by false later = later
-
-pub no_edit : (past : List PastStep) (s number : ℕ) → edit_by (held_view past s number) ≡ 0
-no_edit past s number = edit_of_found (is_view s number) (views past) (unedited past)
 
 -- ---- what holds of a view after each step
 
@@ -319,7 +281,7 @@ folds_base past s n at number (ask.open_view plan bound) (body.Opened edit seen 
     let all : held_view after s number ≡ Some w =
     ap (λ asked. find (is_view s number) (with_opened s view bound asked (views past))) says.read
     ∙ found_new (is_view s number) (views past) w (subst (λ i. All (λ v. is_view s i v ≡ false) (views past)) (sym says.next ∙ same) (are_new past s given)) (rw (eq-eqb s s refl, here) refl) in
-    rw here (ap Some (same_held _ _ _ _ _ _ (says.shows ∙ sym (ap (shown_by after) all)) version (says.unedited ∙ sym (no_edit after s number))))
+    rw here (ap Some (same_held _ _ _ _ _ _ (says.shows ∙ sym (ap (shown_by after) all)) version (says.unedited ∙ sym (ap edit_by all))))
 folds_base past s n at number _ (body.Opened edit seen view) says version here given kept = absurd says
 folds_base past s n at number request (body.Resync bound edit shown view) says version here given kept =
     let same : view ≡ number = eqb-true view number here in

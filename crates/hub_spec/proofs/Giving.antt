@@ -22,7 +22,7 @@ use Rattle.plan_json.specs.Plans.{RawPlanData}
 use Rattle.plan_json.specs.Reading.{plan_of}
 use Rattle.plan_types.specs.declared.plan.Plan.{Plan}
 use Rattle.hub_spec.specs.Past.{PastStep}
-use Rattle.hub_spec.specs.Answers.{first_of, refused_if, refusals, grant, without_table, faulty_plan, faulty_schema, faulty_rows, full_table_for, lost_view, opened_answer, take_answer, window_of}
+use Rattle.hub_spec.specs.Answers.{first_of, refused_if, refusals, grant, edited_answer, without_table, faulty_plan, faulty_schema, faulty_rows, full_table_for, lost_view, opened_answer, take_answer, window_of}
 use Rattle.hub_spec.specs.Bases.{delta_in, dirty}
 use Rattle.hub_spec.specs.Giving.{IsGiven, body_in, plain_in}
 use Rattle.hub_spec.specs.HeldViews.{HeldView, held_view, shown}
@@ -124,6 +124,10 @@ window_wants : (past : List PastStep) (view first end : ℕ) (v : Option HeldVie
 window_wants past view first end None = refl
 window_wants past view first end (Some v) = refl
 
+edited_wants : (view : ℕ) (plan : RawData) (v : Option HeldView) → takes_none (ask.edit_view view plan) (edited_answer view v) ≡ false
+edited_wants view plan None = refl
+edited_wants view plan (Some v) = refl
+
 opened_wants : (past : List PastStep) (session : ℕ) (plan : RawData) (bound : ℕ) (schema : SchemaData)
     → takes_none (ask.open_view plan bound) (opened_answer past session bound (plan_asked schema plan)) ≡ false
 opened_wants past session plan bound schema = by (is_unbuilt plan) (plan_of plan)
@@ -172,6 +176,10 @@ may_want past session (ask.apply port) takes made =
 may_want past session (ask.open_view plan bound) takes made =
     wants_behind past session (ask.open_view plan bound) _ refl (λ why. refl) (plan_wants (schema_or_none past) plan, (if_wants _ _ refl, tt))
     (opened_wants past session plan bound (schema_or_none past)) made
+may_want past session (ask.edit_view view plan) takes made =
+    wants_behind past session (ask.edit_view view plan) _ refl (λ why. refl)
+    (if_wants _ _ refl, (if_wants _ _ refl, (lost_wants _, (plan_wants (schema_or_none past) plan, tt))))
+    (edited_wants view plan (held_view past session view)) made
 may_want past session (ask.take view wait) takes made =
     wants_behind past session (ask.take view wait) _ refl (λ why. refl) (if_wants _ _ refl, (lost_wants _, tt))
     (taken_wants past session view wait (held_view past session view)) made

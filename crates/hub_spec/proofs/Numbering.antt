@@ -4,6 +4,7 @@ use Rattle.std.specs.Prelude.{not}
 use Rattle.std.specs.List.{list_any}
 use Rattle.std.proofs.lemmas.Bool.{cases_eq, eq-eqb, ne_eqb}
 use Rattle.std.proofs.lemmas.List.Elements.{All-nil, All-head, All-tail, All-map, All-weaker, All-push, All-filter}
+use Rattle.cell_core.specs.declared.schema.Column.{Column}
 use Rattle.frame_types.specs.Asks.{Ask}
 use Rattle.frame_types.specs.Asks as ask
 use Rattle.frame_types.specs.ReplyData.{ReplyData}
@@ -12,7 +13,7 @@ use Rattle.frame_types.specs.declared.reply.Body.TheVariants as body
 use Rattle.frame_types.specs.declared.reply.Refusal.{Refusal}
 use Rattle.plan_types.specs.declared.plan.Plan.{Plan}
 use Rattle.hub_spec.specs.Past.{PastStep}
-use Rattle.hub_spec.specs.HeldViews.{HeldView, is_opened_in, is_view, lost_at, opened_count, opened_view, views, with_opened, with_view}
+use Rattle.hub_spec.specs.HeldViews.{HeldView, edited, edited_at, is_opened_in, is_view, lost_at, opened_count, opened_view, views, with_edited, with_opened, with_view}
 use Rattle.hub_spec.specs.Histories.{Entry, answer_to, past_of}
 use Rattle.hub_spec.specs.Plans.{plan_asked}
 use Rattle.hub_spec.specs.Ports.{version_after}
@@ -51,16 +52,37 @@ numbered_more : (past : List PastStep) (d : PastStep) (vs : List HeldView) → A
 numbered_more past d vs all =
     All-weaker (IsNumbered past) (IsNumbered (d ∷ past)) (λ v less. let more = grows (is_opened_in v.session d) (opened_count past v.session) in omega (arith, less, more)) vs all
 
-numbered_lost : (past : List PastStep) (at : ℕ) (lost : List (ℕ × ℕ)) (vs : List HeldView) → All (IsNumbered past) vs → All (IsNumbered past) (map (lost_at at lost) vs)
-numbered_lost past at lost vs all =
-    All-map (IsNumbered past) (lost_at at lost) vs (All-weaker (IsNumbered past) (λ v. IsNumbered past (lost_at at lost v)) one vs all)
+-- a change of views that leaves their sessions and numbers
+pub record IsSameName (v w : HeldView) : Type 0 where
+  pub session : w.session ≡ v.session
+  pub number : w.number ≡ v.number
+
+abbrev pub KeepsNames : (HeldView → HeldView) → Type 0
+KeepsNames f = (v : HeldView) → IsSameName v (f v)
+
+pub lost_name : (at : ℕ) (lost : List (ℕ × ℕ)) → KeepsNames (lost_at at lost)
+lost_name at lost v = by (list_any (λ (w : ℕ × ℕ). is_view w.0 w.1 v) lost)
   where
-    one : (v : HeldView) → IsNumbered past v → IsNumbered past (lost_at at lost v)
-    one v less = by (list_any (λ (w : ℕ × ℕ). is_view w.0 w.1 v) lost)
-      where
-        by : (b : Bool) → IsNumbered past (cond b (record v { lost = Some at }) v)
-        by true = less
-        by false = less
+    by : (b : Bool) → IsSameName v (cond b (record v { lost = Some at }) v)
+    by true = record { session = refl; number = refl }
+    by false = record { session = refl; number = refl }
+
+pub edited_name : (columns : List Column) (session number : ℕ) (plan : Plan) → KeepsNames (edited_at columns session number plan)
+edited_name columns session number plan v = by (is_view session number v)
+  where
+    by : (b : Bool) → IsSameName v (cond b (edited columns plan v) v)
+    by true = record { session = refl; number = refl }
+    by false = record { session = refl; number = refl }
+
+numbered_changed : (past : List PastStep) (f : HeldView → HeldView) (vs : List HeldView) → KeepsNames f → All (IsNumbered past) vs → All (IsNumbered past) (map f vs)
+numbered_changed past f vs keeps all =
+    All-map (IsNumbered past) f vs (All-weaker (IsNumbered past) (λ v. IsNumbered past (f v))
+    (λ v less. let name = keeps v in rw (name.session, name.number) less) vs all)
+
+numbered_edited : (past : List PastStep) (columns : List Column) (session number : ℕ) (asked : Result Plan Refusal) (vs : List HeldView) → All (IsNumbered past) vs
+    → All (IsNumbered past) (with_edited columns session number asked vs)
+numbered_edited past columns session number (Ok plan) vs all = numbered_changed past (edited_at columns session number plan) vs (edited_name columns session number plan) all
+numbered_edited past columns session number (Err why) vs all = all
 
 numbered_opened : (past : List PastStep) (session number bound : ℕ) (asked : Result Plan Refusal) (vs : List HeldView) → number < opened_count past session
     → All (IsNumbered past) vs → All (IsNumbered past) (with_opened session number bound asked vs)
@@ -80,7 +102,12 @@ numbered_views : (past now : List PastStep) (session : ℕ) (answer : Body) (req
 numbered_views past now session (body.Opened edit seen view) (ask.open_view plan bound) vs less all =
     numbered_opened now session view bound (plan_asked (schema_or_none past) plan) vs less all
 numbered_views past now session (body.Opened edit seen view) request vs less all = all
-numbered_views past now session (body.AppliedLosing lost port seq) request vs less all = numbered_lost now (version_after past (body.AppliedLosing lost port seq)) lost vs all
+numbered_views past now session (body.Edited edit view) (ask.edit_view number plan) vs less all =
+    numbered_edited now (schema_or_none past).columns session number (plan_asked (schema_or_none past) plan) vs all
+numbered_views past now session (body.Edited edit view) request vs less all = all
+numbered_views past now session (body.AppliedLosing lost port seq) request vs less all =
+    let at : ℕ = version_after past (body.AppliedLosing lost port seq) in
+    numbered_changed now (lost_at at lost) vs (lost_name at lost) all
 numbered_views past now session (body.Closed view) request vs less all = All-filter (λ v. not (is_view session view v)) (IsNumbered now) vs all
 numbered_views past now session (body.Left closed) request vs less all = All-filter (λ v. not (eqb v.session session)) (IsNumbered now) vs all
 numbered_views past now session _ request vs less all = all

@@ -11,7 +11,7 @@ use Rattle.frame_types.specs.declared.reply.Refusal.{Refusal}
 use Rattle.plan_types.specs.declared.plan.Plan.{Plan}
 use Rattle.view_types.specs.declared.shown.Shown.{Shown}
 use Rattle.hub_spec.specs.Past.{PastStep}
-use Rattle.hub_spec.specs.Answers.{faulty_plan, first_of, refused_if, refusals, grant, opened_answer, plain, take_answer, window_of}
+use Rattle.hub_spec.specs.Answers.{edited_answer, faulty_plan, first_of, refused_if, refusals, grant, opened_answer, plain, take_answer, window_of}
 use Rattle.hub_spec.specs.Bases.{delta_in, edit_by, shown_by}
 use Rattle.hub_spec.specs.HeldViews.{HeldView, held_view, opened_count, opened_view, shown}
 use Rattle.hub_spec.specs.Histories.{Choice, plenty, want, losing, answer_under, losing_in}
@@ -61,6 +61,10 @@ says_window : (past : List PastStep) (session : ℕ) (request : Ask) (v : Option
 says_window past session request None view first end = tt
 says_window past session request (Some v) view first end = tt
 
+says_edited : (past : List PastStep) (session : ℕ) (request : Ask) (view : ℕ) (v : Option HeldView) → Says past session request (edited_answer view v)
+says_edited past session request view None = tt
+says_edited past session request view (Some v) = tt
+
 says_within : (past : List PastStep) (session view : ℕ) (request : Ask) (v : HeldView) (within : Bool) → held_view past session view ≡ Some v
     → Says past session request (if within then body.Delta (delta_in past session view) view else body.Resync v.bound v.edit (shown past v) view)
 says_within past session view request v true is = (rw is refl, refl)
@@ -79,6 +83,7 @@ says_opened past session plan bound (Ok p) is none = record { plan = p; read = i
 says_granted : (past : List PastStep) (session : ℕ) (request : Ask) → NoneRefuses (refusals past session request) → Says past session request (grant past session request)
 says_granted past session (ask.apply port) none = not_refused (eqb (length (waiting past port)) 0) empty none.1.1.0
 says_granted past session (ask.open_view plan bound) none = says_opened past session plan bound (plan_asked (schema_or_none past) plan) refl none.1.0
+says_granted past session (ask.edit_view view plan) none = says_edited past session (ask.edit_view view plan) view (held_view past session view)
 says_granted past session (ask.take view wait) none = says_taken past session view (ask.take view wait) (held_view past session view) refl
 says_granted past session (ask.rows view first end) none = says_window past session (ask.rows view first end) (held_view past session view) view first end
 says_granted past session _ none = tt

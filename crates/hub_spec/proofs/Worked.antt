@@ -1,5 +1,5 @@
 -- Worked histories: what the definitions say of them, computed.
-use Rattle.std.proofs.Common.{◌≡◌, ℕ, suc, zero, ℤ, pos, negsuc, Bool, true, false, List, [], ◌∷◌, length, Some, None, Err, refl}
+use Rattle.std.proofs.Common.{◌≡◌, ℕ, suc, zero, ℤ, pos, negsuc, Bool, true, false, List, [], ◌∷◌, length, Option, Some, None, Err, refl}
 use Rattle.std.specs.Prelude.{codes}
 use Rattle.value_core.specs.Values.{value_order}
 use Rattle.value_core.specs.declared.value.Value.TheVariants.{Whole}
@@ -35,12 +35,15 @@ use Rattle.frame_types.specs.declared.reply.Body.{Body}
 use Rattle.frame_types.specs.declared.reply.Body.TheVariants as body
 use Rattle.frame_types.specs.declared.reply.Cause.TheVariants as cause
 use Rattle.frame_types.specs.declared.request.FrameCause.TheVariants as frame
-use Rattle.view_spec.specs.Openings.{first_opening}
+use Rattle.view_spec.specs.Openings.{Opening, first_opening}
 use Rattle.view_spec.specs.Views.{Side, view}
 use Rattle.row_batch.specs.declared.batch.Pair.{Pair}
+use Rattle.plan_types.specs.declared.plan.Expression.{Expression}
 use Rattle.plan_types.specs.declared.plan.Plan.{Plan}
+use Rattle.plan_types.specs.declared.tree.Tree.{Tree}
 use Rattle.plan_json.specs.declared.words.PlanCause.TheVariants as plan
 use Rattle.plan_json.specs.declared.words.PlanPart.TheVariants.{Columns}
+use Rattle.hub_spec.specs.HeldViews.{opening_after}
 use Rattle.hub_spec.specs.Ports.{numbers_below}
 use Rattle.hub_spec.specs.Room.{different}
 use Rattle.hub_spec.specs.Histories.{Entry, Choice, plenty, want, losing, answer, past_of, is_allowed, history_after, entry_of}
@@ -100,6 +103,9 @@ header = record { text = codes "k"; kind = Integer } ∷ record { text = codes "
 
 abbrev shown_row : ℤ → ℤ → ShownRow
 shown_row k v = record { key = Row (Int k); mark = false; cells = (codes "k", Whole k) ∷ (codes "v", Whole v) ∷ [] }
+
+abbrev shown_v : ℤ → ℤ → ShownRow
+shown_v k v = record { key = Row (Int k); mark = false; cells = (codes "v", Whole v) ∷ [] }
 
 abbrev shows : List ShownRow → Shown
 shows rows = record { header = header; rows = rows }
@@ -558,6 +564,189 @@ no_want_of_a_closed_port = refl
 pub no_want_of_leaving : is_allowed roomy (past_of roomy with_view) 0 ask.leave want ≡ false
 no_want_of_leaving = refl
 
+-- ---- edits
+
+-- a plan that sorts by `v`
+abbrev sorted_by_v : List ℕ → RawData
+sorted_by_v direction =
+    with_member (codes "sort") (raw_list (raw_item (raw_list (raw_item (raw_words (codes "v")) (raw_item (raw_words direction) no_raw_items))) no_raw_items))
+
+abbrev only_columns : RawItems → RawData
+only_columns names = with_member (codes "columns") (raw_list names)
+
+abbrev edits : RawData → Entry
+edits plan = asks (ask.edit_view 0 plan)
+
+-- a view that sorts two rows of one value by it, the least first
+abbrev with_sorted_view : List Entry
+with_sorted_view = asks (ask.open_view (sorted_by_v (codes "asc")) 10) ∷ asks (ask.apply 0)
+    ∷ asks (update (two_rows (k_and_v (pos 1) (pos 5)) (k_and_v (pos 2) (pos 5)))) ∷ with_port
+
+abbrev edited_marks : ℕ → ℕ → Mark
+edited_marks version edit = record { version = version; edit = edit }
+
+-- a delta of view 0 at version 1, from its opening to so many edits later
+abbrev delta_of_edits : ℕ → List Put → Option (List HeaderColumn) → Body
+delta_of_edits edit puts columns = body.Delta (record { «from» = marks 1; to = edited_marks 1 edit; removed = []; puts = puts; header = columns }) 0
+
+pub edit_is_counted : answer roomy with_sorted_view (edits (sorted_by_v (codes "desc"))) ≡ reply 6 1 (body.Edited 1 0)
+edit_is_counted = refl
+
+-- the rows stand as before, but at other places: by the greatest value
+pub edit_of_a_sort : answer roomy (edits (sorted_by_v (codes "desc")) ∷ with_sorted_view) (asks (take 0))
+    ≡ reply 7 1 (delta_of_edits 1 (put 0 (shown_row (pos 1) (pos 5)) ∷ put 1 (shown_row (pos 2) (pos 5)) ∷ []) None)
+unfolding value_order
+edit_of_a_sort = refl
+
+-- the same plan again touches nothing, and is an edit all the same
+pub edit_that_changes_nothing : answer roomy (edits (sorted_by_v (codes "asc")) ∷ with_sorted_view) (asks (take 0)) ≡ reply 7 1 (delta_of_edits 1 [] None)
+unfolding value_order
+edit_that_changes_nothing = refl
+
+-- other columns are another header and other cells
+pub edit_of_columns : answer roomy (edits (only_columns (raw_item (raw_words (codes "v")) no_raw_items)) ∷ with_view) (asks (take 0))
+    ≡ reply 7 1 (delta_of_edits 1 (put 0 (shown_v (pos 1) (pos 7)) ∷ put 1 (shown_v (pos 2) (pos 5)) ∷ []) (Some (record { text = codes "v"; kind = Integer } ∷ [])))
+unfolding value_order
+edit_of_columns = refl
+
+-- between two takes a view may be edited there and back: what was touched is told again, the header too
+pub edit_there_and_back : answer roomy (edits (raw_map no_raw_members) ∷ edits (only_columns (raw_item (raw_words (codes "v")) no_raw_items)) ∷ with_view) (asks (take 0))
+    ≡ reply 8 1 (delta_of_edits 2 (put 0 (shown_row (pos 1) (pos 7)) ∷ put 1 (shown_row (pos 2) (pos 5)) ∷ []) (Some header))
+unfolding value_order
+edit_there_and_back = refl
+
+-- a filter drops a row; the other stands as before and is not touched, though the plan is another
+abbrev filtered : List ℕ → List ℕ → ℤ → RawData
+filtered column operator least =
+    with_member (codes "filter") (raw_list (raw_item (raw_list (raw_item (raw_words column) (raw_item (raw_words operator) (raw_item (raw_int least) no_raw_items)))) no_raw_items))
+
+pub edit_of_a_filter : answer roomy (edits (filtered (codes "v") (codes ">") (pos 5)) ∷ with_view) (asks (take 0))
+    ≡ reply 7 1 (body.Delta (record { «from» = marks 1; to = edited_marks 1 1; removed = Row (Int (pos 2)) ∷ []; puts = []; header = None }) 0)
+unfolding value_order
+edit_of_a_filter = refl
+
+-- the columns in another order are another header over the same cells
+pub edit_of_the_header_alone
+    : answer roomy (edits (only_columns (raw_item (raw_words (codes "v")) (raw_item (raw_words (codes "k")) no_raw_items))) ∷ asks (open_bound 0) ∷ with_rows) (asks (take 0))
+    ≡ reply 7 1 (delta_of_edits 1 [] (Some (record { text = codes "v"; kind = Integer } ∷ record { text = codes "k"; kind = Integer } ∷ [])))
+unfolding value_order
+edit_of_the_header_alone = refl
+
+-- whether the greatest value or the greatest size comes first is another place, and so is a sort more
+pub edit_to_sizes : answer roomy (edits (sorted_by_v (codes "asc abs")) ∷ with_sorted_view) (asks (take 0)) ≡ reply 7 1 (delta_of_edits 1 [] None)
+unfolding value_order
+edit_to_sizes = refl
+
+pub edit_to_a_sort : answer roomy (edits (sorted_by_v (codes "desc")) ∷ with_view) (asks (take 0))
+    ≡ reply 7 1 (delta_of_edits 1 (put 0 (shown_row (pos 1) (pos 7)) ∷ put 1 (shown_row (pos 2) (pos 5)) ∷ []) None)
+unfolding value_order
+edit_to_a_sort = refl
+
+-- more keys are touched than the bound, which stays
+abbrev edit_over_bound : List Entry
+edit_over_bound = edits (only_columns (raw_item (raw_words (codes "v")) no_raw_items)) ∷ asks (open_bound 1) ∷ with_rows
+
+pub edit_past_the_bound : answer roomy edit_over_bound (asks (take 0))
+    ≡ reply 7 1 (body.Resync 1 1 (record { header = record { text = codes "v"; kind = Integer } ∷ []; rows = shown_v (pos 1) (pos 7) ∷ shown_v (pos 2) (pos 5) ∷ [] }) 0)
+unfolding value_order
+edit_past_the_bound = refl
+
+-- an edit and a batch between two takes
+pub edit_and_batch : answer roomy (with_change (pos 8) (edits (only_columns (raw_item (raw_words (codes "v")) no_raw_items)) ∷ with_view)) (asks (take 0))
+    ≡ reply 9 2 (body.Delta (record { «from» = marks 1; to = edited_marks 2 1; removed = []; puts = put 0 (shown_v (pos 1) (pos 8)) ∷ put 1 (shown_v (pos 2) (pos 5)) ∷ []; header = Some (record { text = codes "v"; kind = Integer } ∷ []) }) 0)
+unfolding value_order
+edit_and_batch = refl
+
+-- other views stay, of this session and of others
+pub edit_of_one_view : answer roomy (edits (sorted_by_v (codes "desc")) ∷ asks open_all ∷ with_view) (asks (take 1))
+    ≡ reply 8 1 (body.Delta (record { «from» = marks 1; to = marks 1; removed = []; puts = []; header = None }) 1)
+unfolding value_order
+edit_of_one_view = refl
+
+pub edit_of_one_session : answer roomy (by 1 (ask.edit_view 0 (sorted_by_v (codes "desc"))) plenty ∷ by 1 open_all plenty ∷ with_view) (asks (take 0)) ≡ reply 6 1 (delta 1 1 [] [])
+unfolding value_order
+edit_of_one_session = refl
+
+-- after want of memory all is as before
+pub edit_after_want : answer roomy (by 0 (ask.edit_view 0 (sorted_by_v (codes "desc"))) want ∷ with_view) (edits (raw_map no_raw_members)) ≡ reply 7 1 (body.Edited 1 0)
+edit_after_want = refl
+
+pub take_after_want : answer roomy (by 0 (ask.edit_view 0 (sorted_by_v (codes "desc"))) want ∷ with_view) (asks (take 0)) ≡ reply 7 1 (delta 1 1 [] [])
+unfolding value_order
+take_after_want = refl
+
+-- the next delta is from the mark of the last
+pub take_after_an_edit_was_taken : answer roomy (asks (take 0) ∷ edits (raw_map no_raw_members) ∷ with_view) (asks (take 0))
+    ≡ reply 8 1 (body.Delta (record { «from» = edited_marks 1 1; to = edited_marks 1 1; removed = []; puts = []; header = None }) 0)
+unfolding value_order
+take_after_an_edit_was_taken = refl
+
+pub rows_tell_the_edit : answer roomy (edits (sorted_by_v (codes "asc")) ∷ with_view) (asks (ask.rows 0 0 1)) ≡ reply 7 1 (body.Rows 1 0 (shows (shown_row (pos 2) (pos 5) ∷ [])) 2 0)
+unfolding value_order
+rows_tell_the_edit = refl
+
+pub edit_without_table : answer roomy [] (edits (raw_map no_raw_members)) ≡ reply 1 0 (body.Refused no_table)
+edit_without_table = refl
+
+pub edit_of_no_view : answer roomy with_rows (edits raw_null) ≡ reply 5 1 (body.Refused no_view)
+edit_of_no_view = refl
+
+pub edit_by_another : answer roomy with_view (by 1 (ask.edit_view 0 raw_null) plenty) ≡ reply 1 1 (body.Refused no_view)
+edit_by_another = refl
+
+-- what isn't built yet is told first, of a view that isn't held too
+pub edit_unbuilt : answer roomy with_rows (edits (with_member (codes "split_by") raw_null)) ≡ reply 5 1 refused_unbuilt
+edit_unbuilt = refl
+
+pub edit_unbuilt_in_its_session : answer roomy with_view (by 1 (ask.edit_view 0 (with_member (codes "split_by") raw_null)) plenty) ≡ reply 1 1 refused_unbuilt
+edit_unbuilt_in_its_session = refl
+
+pub edit_unbuilt_without_table : answer roomy [] (edits (with_member (codes "split_by") raw_null)) ≡ reply 1 0 (body.Refused no_table)
+edit_unbuilt_without_table = refl
+
+pub edit_by_no_plan : answer roomy with_view (edits raw_null) ≡ reply 6 1 (body.Refused plan_form)
+edit_by_no_plan = refl
+
+-- a refused edit leaves the view and its number
+pub take_after_a_refused_edit : answer roomy (edits (only_columns (raw_item (raw_words (codes "x")) no_raw_items)) ∷ with_view) (asks (take 0)) ≡ reply 7 1 (delta 1 1 [] [])
+unfolding value_order
+take_after_a_refused_edit = refl
+
+pub edit_after_a_refused_one : answer roomy (edits (only_columns (raw_item (raw_words (codes "x")) no_raw_items)) ∷ with_view) (edits (raw_map no_raw_members)) ≡ reply 7 1 (body.Edited 1 0)
+edit_after_a_refused_one = refl
+
+-- an opening stays where the plans group by the same names in the same order, whatever numbers their columns have
+abbrev grouped : List ℕ → List Expression → Plan
+grouped columns expressions = record {
+  columns = [];
+  group_by = columns;
+  split_by = [];
+  aggregates = [];
+  filters = record { list = []; every = true };
+  sorts = [];
+  expressions = expressions;
+}
+
+abbrev computed : List ℕ → Tree → Expression
+computed name tree = record { name = name; kind = kind.Integer; tree = tree }
+
+abbrev all_closed : Opening
+all_closed = record { depth = 0; singles = [] }
+
+abbrev opened_after : Plan → Plan → Opening
+opened_after before after = opening_after (record { name = codes "k"; kind = kind.Integer } ∷ record { name = codes "v"; kind = kind.Integer } ∷ []) before after all_closed
+
+pub opening_of_the_same_groups : (tree : Tree)
+    → opened_after (grouped (2 ∷ []) (computed (codes "m") tree ∷ [])) (grouped (3 ∷ []) (computed (codes "a") tree ∷ computed (codes "m") tree ∷ [])) ≡ all_closed
+opening_of_the_same_groups tree = refl
+
+pub opening_of_other_groups : (tree : Tree)
+    → opened_after (grouped (2 ∷ []) (computed (codes "m") tree ∷ [])) (grouped (2 ∷ []) (computed (codes "a") tree ∷ [])) ≡ record { depth = 1; singles = [] }
+opening_of_other_groups tree = refl
+
+pub opening_of_another_order : opened_after (grouped (0 ∷ 1 ∷ []) []) (grouped (1 ∷ 0 ∷ []) []) ≡ record { depth = 2; singles = [] }
+opening_of_another_order = refl
+
 -- ---- slots and running numbers
 
 abbrev integers : Keeping → SchemaData
@@ -568,9 +757,6 @@ sets v = Set (Int v) ∷ []
 
 abbrev five : List (List PatchCell)
 five = sets (pos 0) ∷ sets (pos 1) ∷ sets (pos 2) ∷ sets (pos 3) ∷ sets (pos 4) ∷ []
-
-abbrev shown_v : ℤ → ℤ → ShownRow
-shown_v key v = record { key = Row (Int key); mark = false; cells = (codes "v", Whole v) ∷ [] }
 
 -- all columns and all rows, by key
 abbrev whole_plan : SchemaData → Plan
@@ -655,6 +841,9 @@ want_of_a_view = refl
 pub want_of_a_window : may_want with_view (ask.rows 0 0 1) ≡ true
 want_of_a_window = refl
 
+pub want_of_an_edit : may_want with_view (edits (raw_map no_raw_members)).request ≡ true
+want_of_an_edit = refl
+
 pub no_want_without_table : may_want [] ask.port ≡ false
 no_want_without_table = refl
 
@@ -713,6 +902,9 @@ with_lost = by 0 (ask.apply 0) (losing ((0, 0) ∷ [])) ∷ one_waiting
 -- a lost view refuses with the version at which it was lost, and is held all the same
 pub rows_of_a_lost_view : answer roomy with_lost (asks (ask.rows 0 0 1)) ≡ reply 8 2 (body.Refused (view_lost 2))
 rows_of_a_lost_view = refl
+
+pub edit_of_a_lost_view : answer roomy with_lost (edits raw_null) ≡ reply 8 2 (body.Refused (view_lost 2))
+edit_of_a_lost_view = refl
 
 pub backwards_in_a_lost_view : answer roomy with_lost (asks (ask.rows 0 2 1)) ≡ reply 8 2 (body.Refused (view_lost 2))
 backwards_in_a_lost_view = refl

@@ -3,6 +3,7 @@
 use Rattle.std.specs.Prelude.{ℕ, ◌+◌, ◌-◌, ◌==◌, nat_lt, nat_le, List, [], ◌∷◌, ◌++◌, length, map, take, drop, slice_get, Bool, true, false, not, Option, Some, None, is_some, is_none, option_map, option_and_then, Result, Ok, Err, if◌then◌else◌}
 use Rattle.cell_core.specs.Keepings.{is_indexed}
 use Rattle.cell_core.specs.Limits.{max_rows}
+use Rattle.cell_core.specs.RawData.{RawData}
 use Rattle.cell_core.specs.Schemas.{SchemaData, schema_of, type_name}
 use Rattle.cell_core.specs.declared.schema.Column.{Column}
 use Rattle.cell_core.specs.declared.schema.ColumnWords.{ColumnWords}
@@ -16,6 +17,7 @@ use Rattle.frame_types.specs.Asks.{Ask}
 use Rattle.frame_types.specs.Asks as ask
 use Rattle.frame_types.specs.Refusals.{frame_cause, bad_frame, table_set, bad_schema, too_many_ports, no_port, port_closed, bad_rows, not_indexed, port_full, table_full, history_full, empty, too_many_views, no_view, view_lost, bad_window, no_table, memory}
 use Rattle.frame_types.specs.declared.reply.Body.{Body}
+use Rattle.frame_types.specs.declared.reply.Cause.TheVariants.{Unbuilt}
 use Rattle.frame_types.specs.declared.reply.Body.TheVariants as body
 use Rattle.frame_types.specs.declared.reply.Refusal.{Refusal}
 use Rattle.plan_types.specs.declared.plan.Plan.{Plan}
@@ -25,7 +27,7 @@ use Rattle.hub_spec.specs.Bases.{delta_in, dirty}
 use Rattle.hub_spec.specs.HeldViews.{HeldView, views, held_view, held_by, opened_count, opened_view, shown}
 use Rattle.hub_spec.specs.Limits.{max_waiting, max_ports, max_views}
 use Rattle.hub_spec.specs.Ports.{schema as schema_made, ports, has_port, is_closed, used_ports, batches_accepted, taken_count, waiting, all_waiting}
-use Rattle.hub_spec.specs.Plans.{plan_asked}
+use Rattle.hub_spec.specs.Plans.{is_unbuilt, plan_asked}
 use Rattle.hub_spec.specs.Reading.{read_batch, batch_asked}
 use Rattle.hub_spec.specs.Room.{rows_with}
 use Rattle.hub_spec.specs.Rows.{schema_or_none, rows}
@@ -97,6 +99,10 @@ abbrev pub lost_view : Option HeldView → Option Refusal
 lost_view None = None
 lost_view (Some v) = option_map view_lost v.lost
 
+-- groups, splits and aggregates aren't built yet
+abbrev pub unbuilt_plan : RawData → Option Refusal
+unbuilt_plan plan = refused_if (is_unbuilt plan) (bad_frame Unbuilt)
+
 -- why there is no plan
 abbrev pub faulty_plan : Result Plan Refusal → Option Refusal
 faulty_plan (Ok plan) = None
@@ -139,6 +145,13 @@ refusals past session (ask.open_view plan bound) =
     without_table past
     ∷ faulty_plan (plan_asked (schema_or_none past) plan)
     ∷ refused_if (nat_le max_views (length (views past))) too_many_views
+    ∷ []
+refusals past session (ask.edit_view view plan) =
+    without_table past
+    ∷ unbuilt_plan plan
+    ∷ without_view past session view
+    ∷ lost_view (held_view past session view)
+    ∷ faulty_plan (plan_asked (schema_or_none past) plan)
     ∷ []
 refusals past session (ask.take view wait) =
     without_table past
@@ -200,6 +213,11 @@ opened_answer past session bound (Err why) = body.Refused why
 opened_answer past session bound (Ok plan) =
     body.Opened 0 (shown past (opened_view session (opened_count past session) plan bound)) (opened_count past session)
 
+-- one edit more
+abbrev pub edited_answer : ℕ → Option HeldView → Body
+edited_answer view None = body.Refused no_view
+edited_answer view (Some v) = body.Edited (v.edit + 1) view
+
 abbrev pub grant : List PastStep → ℕ → Ask → Body
 grant past session (ask.table columns index limit) = body.Table
 grant past session ask.port = body.Port (ports past)
@@ -213,6 +231,7 @@ grant past session (ask.clear port) = queued past port
 grant past session (ask.close_port port) = body.PortClosed port
 grant past session (ask.apply port) = body.Applied port (taken_count past port + 1)
 grant past session (ask.open_view plan bound) = opened_answer past session bound (plan_asked (schema_or_none past) plan)
+grant past session (ask.edit_view view plan) = edited_answer view (held_view past session view)
 grant past session (ask.take view wait) = take_answer past session view (held_view past session view)
 grant past session (ask.rows view first end) = window_of (held_view past session view) (shown past) view first end
 grant past session (ask.close view) = body.Closed view

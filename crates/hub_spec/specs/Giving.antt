@@ -43,6 +43,7 @@ AnswersAfter Held session request answer Holds =
 -- an answer that changes neither the table nor a port; a delta in it ends at that version
 abbrev pub IsOfViews : ℕ → Body → Type 0
 IsOfViews version (body.Opened edit shown view) = ⊤
+IsOfViews version (body.Edited edit view) = ⊤
 IsOfViews version (body.Delta delta view) = delta.to.version ≡ version
 IsOfViews version (body.Resync bound edit shown view) = ⊤
 IsOfViews version (body.Rows edit start shown size view) = ⊤

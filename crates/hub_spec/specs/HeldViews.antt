@@ -1,7 +1,9 @@
 -- The views that sessions hold, and what they show.
-use Rattle.std.specs.Prelude.{ℕ, ◌==◌, List, [], ◌∷◌, ◌++◌, filter, map, length, find, Bool, true, false, not, ◌&&◌, Option, Some, None, is_none, Result, Ok, Err, if◌then◌else◌}
+use Rattle.std.specs.Prelude.{ℕ, ◌+◌, ◌==◌, List, [], ◌∷◌, ◌++◌, filter, map, length, find, Bool, true, false, not, ◌&&◌, Option, Some, None, is_none, Result, Ok, Err, if◌then◌else◌}
 use Rattle.std.specs.List.{list_any}
+use Rattle.std.specs.Str.{bytes_eq}
 use Rattle.cell_core.specs.Schemas.{SchemaData}
+use Rattle.cell_core.specs.declared.schema.Column.{Column}
 use Rattle.frame_types.specs.Asks.{Ask}
 use Rattle.frame_types.specs.Asks as ask
 use Rattle.frame_types.specs.declared.reply.Body.{Body}
@@ -9,6 +11,7 @@ use Rattle.frame_types.specs.declared.reply.Body.TheVariants as body
 use Rattle.frame_types.specs.declared.reply.Refusal.{Refusal}
 use Rattle.plan_types.specs.declared.plan.Plan.{Plan}
 use Rattle.view_types.specs.declared.shown.Shown.{Shown}
+use Rattle.view_spec.specs.Columns.{column_at}
 use Rattle.view_spec.specs.Openings.{Opening, first_opening}
 use Rattle.view_spec.specs.Views.{Side, view}
 use Rattle.hub_spec.specs.Past.{PastStep, times}
@@ -62,8 +65,38 @@ abbrev pub with_opened : ℕ → ℕ → ℕ → Result Plan Refusal → List He
 with_opened session number bound (Ok plan) all = all ++ opened_view session number plan bound ∷ []
 with_opened session number bound (Err why) all = all
 
+-- ---- edits
+
+-- the names of the columns by which a plan groups, in order
+abbrev pub group_names : List Column → Plan → List (List ℕ)
+group_names columns plan = map (λ i. (column_at columns plan i).name) plan.group_by
+
+abbrev pub same_names : List (List ℕ) → List (List ℕ) → Bool
+same_names [] [] = true
+same_names [] (m ∷ ms) = false
+same_names (n ∷ ns) [] = false
+same_names (n ∷ ns) (m ∷ ms) = bytes_eq n m && same_names ns ms
+
+-- an opening stays where the plan groups by columns of the same names in the same order, and is else that of a new view
+abbrev pub opening_after : List Column → Plan → Plan → Opening → Opening
+opening_after columns before after opening = if same_names (group_names columns before) (group_names columns after) then opening else first_opening after
+
+abbrev pub edited : List Column → Plan → HeldView → HeldView
+edited columns plan v = record v { plan = plan; opening = opening_after columns v.plan plan v.opening; edit = v.edit + 1 }
+
+-- the view of that number, by another plan
+abbrev pub edited_at : List Column → ℕ → ℕ → Plan → HeldView → HeldView
+edited_at columns session number plan v = if is_view session number v then edited columns plan v else v
+
+abbrev pub with_edited : List Column → ℕ → ℕ → Result Plan Refusal → List HeldView → List HeldView
+with_edited columns session number (Ok plan) all = map (edited_at columns session number plan) all
+with_edited columns session number (Err why) all = all
+
+-- ---- the views that are held
+
 abbrev pub with_view : List PastStep → ℕ → Body → Ask → List HeldView → List HeldView
 with_view past session (body.Opened edit seen view) (ask.open_view plan bound) all = with_opened session view bound (plan_asked (schema_or_none past) plan) all
+with_view past session (body.Edited edit view) (ask.edit_view number plan) all = with_edited (schema_or_none past).columns session number (plan_asked (schema_or_none past) plan) all
 with_view past session (body.AppliedLosing lost port seq) request all = map (lost_at (version_after past (body.AppliedLosing lost port seq)) lost) all
 with_view past session (body.Closed view) request all = filter (λ v. not (is_view session view v)) all
 with_view past session (body.Left closed) request all = filter (λ v. not (v.session == session)) all

@@ -78,17 +78,23 @@ views_want kept counts past session request h takes = record {
 }
 
 -- the answer to a request that asks a view which can't be asked
+pub unasked_refused : (kept : List ViewData) (counts : List ℕ) (past : List PastStep) (session number : ℕ) (request : Ask) (rest : List (Option Refusal)) (grants : Body) (why : Refusal)
+    → Keeps kept counts past → asked_data session number kept ≡ Err why
+    → plain_in past session request ≡ first_of (without_view past session number ∷ lost_view (held_view past session number) ∷ rest) grants
+    → Gives past session request (body.Refused why) (Keeps kept counts)
+unasked_refused kept counts past session number request rest grants why h e plain =
+    let r = refuses past (held_view past session number) why (sym (asked_is kept counts past session number h) ∙ e) in
+    views_refuse kept counts past session request why h r.unnamed (plain ∙ r.first rest grants)
+
 pub asked_refused : (kept : List ViewData) (counts : List ℕ) (past : List PastStep) (session number : ℕ) (request : Ask) (rest : List (Option Refusal)) (why : Refusal)
     → Keeps kept counts past → asked_data session number kept ≡ Err why
     → refusals past session request ≡ without_table past ∷ without_view past session number ∷ lost_view (held_view past session number) ∷ rest
     → Gives past session request (body.Refused why) (Keeps kept counts)
 asked_refused kept counts past session number request rest why h e are =
     let grants : Body = grant past session request in
-    let o : Option HeldView = held_view past session number in
-    let r = refuses past o why (sym (asked_is kept counts past session number h) ∙ e) in
-    views_refuse kept counts past session request why h r.unnamed
+    unasked_refused kept counts past session number request rest grants why h e
     (ap (λ (checks : List (Option Refusal)). first_of checks grants) are
-    ∙ ap (λ b. first_of (refused_if b no_table ∷ refused_if (is_none o) no_view ∷ lost_view o ∷ rest) grants) h.made ∙ r.first rest grants)
+    ∙ ap (λ b. first_of (refused_if b no_table ∷ without_view past session number ∷ lost_view (held_view past session number) ∷ rest) grants) h.made)
 
 -- a view that can be asked
 pub record IsAsked (past : List PastStep) (session number : ℕ) (live : LiveData) : Type 0 where

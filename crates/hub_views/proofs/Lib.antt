@@ -1,4 +1,5 @@
 pub mod Asking
+pub mod Edits
 pub mod FlatPlans
 pub mod KeptViews
 pub mod Lists

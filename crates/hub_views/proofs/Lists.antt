@@ -1,8 +1,10 @@
 -- Lists of which each item is kept, dropped or changed.
-use Rattle.std.proofs.Common.{◌≡◌, ℕ, suc, zero, ◌<◌, Bool, true, false, cond, List, [], ◌∷◌, ◌++◌, length, map, filter, find, get_or, All, Some, None, option_map, refl, sym, ap, ◌∙◌, arith}
+use Rattle.std.proofs.Common.{◌≡◌, ℕ, suc, zero, ◌<◌, ltb, position, Bool, true, false, cond, List, [], ◌∷◌, ◌++◌, length, map, filter, find, get_or, All, Some, None, option_map, refl, sym, ap, ◌∙◌, arith}
 use Rattle.std.specs.Prelude.{is_some}
-use Rattle.std.specs.List.{list_any}
-use Rattle.std.proofs.lemmas.List.Elements.{All-head, All-tail}
+use Rattle.std.specs.List.{list_any, position_or_len}
+use Rattle.std.proofs.lemmas.Bool.Decides.{nat_tests}
+use Rattle.std.proofs.lemmas.List.Elements.{All-from_get_or, All-head, All-tail}
+use Rattle.std.proofs.lemmas.List.Sums.{fails_before_first}
 
 pub map_same : {X Y : Type 0} (f g : X → Y) (xs : List X) → All (λ x. f x ≡ g x) xs → map f xs ≡ map g xs
 map_same f g [] same = refl
@@ -39,6 +41,22 @@ found_passes test (x ∷ xs) y e = by (test x) refl e (found_passes test xs y)
 pub none_passes : {X : Type 0} (test : X → Bool) (xs : List X) → All (λ x. test x ≡ false) xs → list_any test xs ≡ false
 none_passes test [] none = refl
 none_passes test (x ∷ xs) none = rw (All-head (λ y. test y ≡ false) x xs none) (none_passes test xs (All-tail (λ y. test y ≡ false) x xs none))
+
+past_end : (b : Bool) (n : ℕ) → cond b (Some n) None ≡ None → b ≡ false
+past_end true n h = absurd (let wrong : Some n ≡ None = h in cc)
+past_end false n h = refl
+
+all_fail : {X : Type 0} (test : X → Bool) (xs : List X) → All (λ x. test x ≡ false) xs → find test xs ≡ None
+all_fail test [] all = refl
+all_fail test (x ∷ xs) all = rw (All-head (λ y. test y ≡ false) x xs all) (all_fail test xs (All-tail (λ y. test y ≡ false) x xs all))
+
+-- where no item has a place, none is found
+pub none_placed : {X : Type 0} (test : X → Bool) (xs : List X) → position test xs ≡ None → find test xs ≡ None
+none_placed test [] none = refl
+none_placed test (x ∷ xs) none =
+    let past : ltb (position_or_len test (x ∷ xs)) (length (x ∷ xs)) ≡ false = past_end _ _ none in
+    all_fail test (x ∷ xs) (All-from_get_or (λ y. test y ≡ false) (x ∷ xs) x
+    (λ k lt. fails_before_first test (x ∷ xs) k x (grind (arith, nat_tests, past, lt))))
 
 -- where an item passes, one is found
 pub found_if : {X : Type 0} (test : X → Bool) (xs : List X) (k : ℕ) (d : X) → k < length xs → test (get_or xs k d) ≡ true → is_some (find test xs) ≡ true

@@ -22,6 +22,7 @@ use Rattle.hub_spec.specs.HeldViews as held
 use Rattle.hub_spec.specs.Histories.{is_ascending}
 use Rattle.hub_spec.specs.Ports as ports
 use Rattle.hub_spec.proofs.Folding.{has_is_any}
+use Rattle.hub_spec.proofs.Numbering.{lost_name}
 use Rattle.hub_views.specs.Keeping.{AreNumbered, HoldsViews, Stands, StandsIn, kept_view, live_at, state_of}
 use Rattle.hub_views.specs.Live.{LiveData, StateData, ViewData, live_data, live_now, lost_now, state_data, view_data}
 use Rattle.hub_views.specs.Refreshing.{AreLosses, AreRefreshed, AreSteps, Becomes, IsRefreshed, applied_body, is_loss, losses}
@@ -33,7 +34,7 @@ use Rattle.hub_views.specs.declared.view.ViewState.TheVariants.{Live, Lost}
 use Rattle.hub_views.specs.declared.views.Views.{Views}
 use Rattle.hub_views.proofs.KeptViews.{with_state}
 use Rattle.hub_views.proofs.Lists.{found_if, none_passes}
-use Rattle.hub_views.proofs.Numbered.{IsBefore, earlier_is_other, later_is_other, lost_name, numbered_lost, numbered_still, own_found, own_is_view}
+use Rattle.hub_views.proofs.Numbered.{IsBefore, earlier_is_other, held_changed, later_is_other, numbered_changed, numbered_still, own_found, own_is_view}
 use Rattle.hub_views.proofs.Refreshes.{brought_is}
 
 -- ---- one view
@@ -194,24 +195,6 @@ record IsApplied (past : List PastStep) (d : PastStep) (at before : ℕ) (lost :
   table_now : HoldsTable now at (d ∷ past)
   steps : AreSteps was changes now
 
--- views that are lost stay held under their numbers
-found_lost : (at : ℕ) (lost : List (ℕ × ℕ)) (test : HeldView → Bool) (vs : List HeldView) → ((v : HeldView) → test (lost_at at lost v) ≡ test v)
-    → find test (map (lost_at at lost) vs) ≡ option_map (lost_at at lost) (find test vs)
-found_lost at lost test [] same = refl
-found_lost at lost test (v ∷ vs) same = rw (same v) (by (test v) (found_lost at lost test vs same))
-  where
-    by : (b : Bool) → find test (map (lost_at at lost) vs) ≡ option_map (lost_at at lost) (find test vs)
-        → cond b (Some (lost_at at lost v)) (find test (map (lost_at at lost) vs)) ≡ option_map (lost_at at lost) (cond b (Some v) (find test vs))
-    by true later = refl
-    by false later = later
-
-held_lost : (past : List PastStep) (d : PastStep) (at : ℕ) (lost : List (ℕ × ℕ)) (v : HeldView) → held.views (d ∷ past) ≡ map (lost_at at lost) (held.views past)
-    → held.held_view past v.session v.number ≡ Some v → held.held_view (d ∷ past) v.session v.number ≡ Some (lost_at at lost v)
-held_lost past d at lost v are found =
-    ap (find (is_view v.session v.number)) are
-    ∙ found_lost at lost (is_view v.session v.number) (held.views past) (λ u. let name = lost_name at lost u in rw (name.session, name.number) refl)
-    ∙ ap (option_map (lost_at at lost)) found
-
 -- by the same plan and opening
 record IsSameView (v w : HeldView) : Type 0 where
   plan : w.plan ≡ v.plan
@@ -235,8 +218,8 @@ state_follows past d at before lost was now changes v is found (Live old) (Lost 
 state_follows past d at before lost was now changes v is found (Live old) (Live live) None same stands becomes =
     let its : live_data old ≡ live_at past v.session v.number v.bound v.edit = cc in
     let alike = lost_view_same at lost v in
-    brought_is past d v was now before at changes old live is.table is.table_now is.steps found (lost_at at lost v) (held_lost past d at lost v is.views found) alike.plan alike.opening
-    (is.other v.session v.number) stands its becomes
+    brought_is past d v was now before at changes old live is.table is.table_now is.steps found (lost_at at lost v) (held_changed past d (lost_at at lost) v (lost_name at lost) is.views found) alike.plan alike.opening
+    (is.other v.session v.number) stands.rows its becomes
 
 views_follow : (past : List PastStep) (d : PastStep) (at before : ℕ) (lost : List (ℕ × ℕ)) (was now : TableData) (changes : List RowChange) → IsApplied past d at before lost was now changes
     → (us ws : List View) (vs : List HeldView) → All (λ v. held.held_view past v.session v.number ≡ Some v) vs → map view_data us ≡ map (kept_view past) vs
@@ -262,7 +245,10 @@ stands_now : (changes : List RowChange) (was now : TableData) (version : ℕ) (v
     → Becomes changes now version old after → StandsIn now v after
 stands_now changes was now version v steps old (Lost at) stands becomes = tt
 stands_now changes was now version v steps (Lost at) (Live live) stands becomes = absurd (cc)
-stands_now changes was now version v steps (Live old) (Live live) stands becomes = becomes.stands (side_of v.plan v.opening was) stands (steps v.plan v.opening)
+stands_now changes was now version v steps (Live old) (Live live) stands becomes = record {
+  rows = becomes.stands (side_of v.plan v.opening was) stands.rows (steps v.plan v.opening);
+  opening = becomes.opening ∙ stands.opening;
+}
 
 stands_lost : (t : TableData) (at : ℕ) (lost : List (ℕ × ℕ)) (v : HeldView) (w : View) → StandsIn t v w.state → Stands t w (lost_at at lost v)
 stands_lost t at lost v w h = by (is_lost_in lost v)
@@ -271,7 +257,7 @@ stands_lost t at lost v w h = by (is_lost_in lost v)
     by true = stays_in w.state h
       where
         stays_in : (state : ViewState) → StandsIn t v state → StandsIn t (record v { lost = Some at }) state
-        stays_in (Live live) stands = stands
+        stays_in (Live live) stands = record { rows = stands.rows; opening = stands.opening }
         stays_in (Lost version) stands = tt
     by false = h
 
@@ -313,7 +299,7 @@ refreshed v after past d at before lost was now changes h renewed counts moved i
         opened = λ s lt. ap (λ cs. get_or cs s 0) counts ∙ h.0.opened s lt ∙ sym (is.opened s);
         numbered = subst (AreNumbered (held.opened_count (d ∷ past))) (sym is.views)
             (numbered_still (held.opened_count past) (held.opened_count (d ∷ past)) (map (lost_at at lost) vs) (λ s. omega (arith, is.opened s))
-            (numbered_lost (held.opened_count past) at lost vs h.0.numbered));
+            (numbered_changed (held.opened_count past) (lost_at at lost) vs (lost_name at lost) h.0.numbered));
       },
       subst (AllZip (Stands now) ws) (sym is.views) (all_stand changes was now at lost is.steps us ws vs h.1 renewed),
     )

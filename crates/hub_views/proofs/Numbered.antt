@@ -1,10 +1,10 @@
 -- Each held view stands under its own session and number.
-use Rattle.std.proofs.Common.{◌≡◌, ℕ, ◌<◌, ◌≤◌, eqb, Bool, true, false, ◌&&◌, cond, List, [], ◌∷◌, ◌++◌, map, filter, find, get_or, All, Some, None, inl, inr, refl, sym, ap, ◌∙◌, arith, if◌then◌else◌}
+use Rattle.std.proofs.Common.{◌≡◌, ℕ, ◌<◌, ◌≤◌, eqb, Bool, true, false, ◌&&◌, cond, List, [], ◌∷◌, ◌++◌, map, filter, find, get_or, All, Some, None, option_map, inl, inr, refl, ap, ◌∙◌, sym, arith}
 use Rattle.std.proofs.lemmas.Bool.{cases_eq, eq-eqb, ne_eqb}
 use Rattle.std.proofs.lemmas.List.Elements.{All-nil, All-cons, All-head, All-tail, All-push, All-filter, All-map, All-weaker}
-use Rattle.std.specs.List.{list_any}
-use Rattle.hub_spec.specs.HeldViews.{HeldView, is_view, lost_at}
-use Rattle.hub_spec.proofs.Numbering.{not_view}
+use Rattle.hub_spec.specs.Past.{PastStep}
+use Rattle.hub_spec.specs.HeldViews.{HeldView, held_view, is_view, views}
+use Rattle.hub_spec.proofs.Numbering.{KeepsNames, not_view}
 use Rattle.hub_views.specs.Keeping.{AreNumbered}
 
 pub own_is_view : (v : HeldView) → is_view v.session v.number v ≡ true
@@ -67,24 +67,33 @@ numbered_push opened (v ∷ vs) w h lt before = (
   numbered_push opened vs w h.2 lt (All-tail (λ u. IsBefore u w) v vs before),
 )
 
--- some were lost
-pub record IsSameName (v w : HeldView) : Type 0 where
-  pub session : w.session ≡ v.session
-  pub number : w.number ≡ v.number
-
-pub lost_name : (at : ℕ) (lost : List (ℕ × ℕ)) (v : HeldView) → IsSameName v (lost_at at lost v)
-lost_name at lost v = by (list_any (λ (w : ℕ × ℕ). is_view w.0 w.1 v) lost)
-  where
-    by : (b : Bool) → IsSameName v (if b then record v { lost = Some at } else v)
-    by true = record { session = refl; number = refl }
-    by false = record { session = refl; number = refl }
-
-pub numbered_lost : (opened : ℕ → ℕ) (at : ℕ) (lost : List (ℕ × ℕ)) (vs : List HeldView) → AreNumbered opened vs → AreNumbered opened (map (lost_at at lost) vs)
-numbered_lost opened at lost [] h = tt
-numbered_lost opened at lost (v ∷ vs) h =
-    let name = lost_name at lost v in (
+-- some were changed
+pub numbered_changed : (opened : ℕ → ℕ) (f : HeldView → HeldView) (vs : List HeldView) → KeepsNames f → AreNumbered opened vs → AreNumbered opened (map f vs)
+numbered_changed opened f [] keeps h = tt
+numbered_changed opened f (v ∷ vs) keeps h =
+    let name = keeps v in (
       rw (name.session, name.number) h.0,
-      All-map (IsBefore (lost_at at lost v)) (lost_at at lost) vs (All-weaker (IsBefore v) (λ u. IsBefore (lost_at at lost v) (lost_at at lost u))
-          (λ u before. let its = lost_name at lost u in rw (name.session, name.number, its.session, its.number) before) vs h.1),
-      numbered_lost opened at lost vs h.2,
+      All-map (IsBefore (f v)) f vs (All-weaker (IsBefore v) (λ u. IsBefore (f v) (f u))
+          (λ u before. let its = keeps u in rw (name.session, name.number, its.session, its.number) before) vs h.1),
+      numbered_changed opened f vs keeps h.2,
     )
+
+-- a changed view is held under the number that it had
+found_changed : (session number : ℕ) (f : HeldView → HeldView) (vs : List HeldView) → KeepsNames f
+    → find (is_view session number) (map f vs) ≡ option_map f (find (is_view session number) vs)
+found_changed session number f [] keeps = refl
+found_changed session number f (v ∷ vs) keeps =
+    let name = keeps v in
+    let same : is_view session number (f v) ≡ is_view session number v =
+    ap (λ s. eqb s session && eqb (f v).number number) name.session ∙ ap (λ n. eqb v.session session && eqb n number) name.number in
+    ap (λ b. cond b (Some (f v)) (find (is_view session number) (map f vs))) same ∙ by (is_view session number v) (found_changed session number f vs keeps)
+  where
+    by : (b : Bool) → find (is_view session number) (map f vs) ≡ option_map f (find (is_view session number) vs)
+        → cond b (Some (f v)) (find (is_view session number) (map f vs)) ≡ option_map f (cond b (Some v) (find (is_view session number) vs))
+    by true later = refl
+    by false later = later
+
+pub held_changed : (past : List PastStep) (d : PastStep) (f : HeldView → HeldView) (v : HeldView) → KeepsNames f → views (d ∷ past) ≡ map f (views past)
+    → held_view past v.session v.number ≡ Some v → held_view (d ∷ past) v.session v.number ≡ Some (f v)
+held_changed past d f v keeps are found =
+    ap (find (is_view v.session v.number)) are ∙ found_changed v.session v.number f (views past) keeps ∙ ap (option_map f) found

@@ -9,7 +9,7 @@ use Rattle.view_types.specs.declared.shown.Shown.{Shown}
 use Rattle.delta_core.specs.DirtySets.{dirty_of}
 use Rattle.delta_core.specs.declared.delta.Mark.{Mark}
 use Rattle.plan_types.specs.declared.plan.Plan.{Plan}
-use Rattle.view_spec.specs.Openings.{Opening}
+use Rattle.view_spec.specs.Openings.{Opening, first_opening}
 use Rattle.view_spec.specs.Views.{Side, view}
 use Rattle.view_kept.specs.Steps.{side_of}
 use Rattle.flat_live.specs.Flat.{StandsFlat, flat_shown, shows_flat}
@@ -30,7 +30,6 @@ use Rattle.hub_spec.specs.Ports as history
 use Rattle.hub_spec.specs.Plans.{plan_asked}
 use Rattle.hub_spec.specs.Rows.{schema_or_none}
 use Rattle.hub_spec.proofs.Counting.{times_le}
-use Rattle.hub_spec.proofs.Folding.{no_edit}
 use Rattle.hub_spec.proofs.Numbering.{are_new, found_new}
 use Rattle.hub_views.specs.Keeping.{AreNumbered, HoldsViews, IsOpened, Keeps, Stands, kept_view}
 use Rattle.hub_views.specs.Live.{LiveData, ViewData, fresh_live, live_now, view_data}
@@ -100,7 +99,7 @@ opened_views kept counts past session asked plan bound n version seen h lt read 
     with_state w (live_now (record { bound = bound; edit = 0; shown = what; base = base; dirty = dirty_of bound [] false })) in
     let last : kept_view now w ≡ shows_at seen 0 =
     ap (λ l. with_state w (live_now l)) (based_is past d session number bound 0 here)
-    ∙ ap (λ what. shows_at what (edit_by (held_view now session number))) showing ∙ ap (shows_at seen) (no_edit now session number) in
+    ∙ ap (λ what. shows_at what (edit_by (held_view now session number))) showing ∙ ap (shows_at seen) (ap edit_by found) in
     let one_more : opened_count now session ≡ number + 1 = rw (eq-eqb session session refl) refl in
     record {
       made = h.made;
@@ -119,14 +118,14 @@ stands_push t (x ∷ us) [] u v all last = absurd all
 stands_push t (x ∷ us) (w ∷ vs) u v all last = (all.0, stands_push t us vs u v all.1 last)
 
 -- what is answered and held then
-pub opened_is : (was now : Views) (past : List PastStep) (session bound next version : ℕ) (plan : Plan) (t : TableData) (rows : FlatLive) (seen : Shown) (live : LiveView)
+pub opened_is : (was now : Views) (past : List PastStep) (session bound next version : ℕ) (plan : Plan) (t : TableData) (rows : FlatLive) (opening : Opening) (seen : Shown) (live : LiveView)
     → HoldsViews was t past → HoldsTable t version past → length past < 2 ^ 53 → session < sessions
-    → ((opening : Opening) → StandsFlat rows (side_of plan opening t)) → seen ≡ flat_shown rows → live ≡ fresh_live bound (record { version = version; edit = 0 }) rows
+    → ((opening : Opening) → StandsFlat rows (side_of plan opening t)) → seen ≡ flat_shown rows → opening ≡ first_opening plan → live ≡ fresh_live bound (record { version = version; edit = 0 }) rows opening
     → now.items.items ≡ was.items.items ++ record { session = session; number = get_or was.opened session 0; state = Live live } ∷ []
     → next ≡ min (get_or was.opened session 0 + 1) (2 ^ 64 - 1) → now.opened ≡ set was.opened session next
     → IsOpened past session plan bound (body.Opened 0 seen (get_or was.opened session 0)) (HoldsViews now t)
 unfolding HoldsViews
-opened_is was now past session bound next version plan t rows seen live h table few lt stands shows fresh pushed next_is counted =
+opened_is was now past session bound next version plan t rows opening seen live h table few lt stands shows opens fresh pushed next_is counted =
     let kept : List View = was.items.items in
     let counts : List ℕ = was.opened in
     let number : get_or counts session 0 ≡ opened_count past session = h.0.opened session lt in
@@ -135,7 +134,7 @@ opened_is was now past session bound next version plan t rows seen live h table 
     let shows_rows : seen ≡ shown past w = shows ∙ shows_flat rows (side_of plan w.opening t) its (table_keys t version past table) ∙ sym (table_view t version past table w) in
     let raised : next ≡ opened_count past session + 1 = omega (arith, next_is, number, times_le (is_opened_in session) past) in
     let entry : ℕ → LiveView → View = λ k l. record { session = session; number = k; state = Live l } in
-    let base : ℕ → LiveView = λ k. fresh_live bound (record { version = k; edit = 0 }) rows in
+    let base : ℕ → LiveView = λ k. fresh_live bound (record { version = k; edit = 0 }) rows opening in
     let all : now.items.items ≡ kept ++ entry (opened_count past session) (base (history.version past)) ∷ [] =
     pushed ∙ ap (λ k. kept ++ entry k live ∷ []) number ∙ ap (λ l. kept ++ entry (opened_count past session) l ∷ []) (fresh ∙ ap base table.number) in
     let told : Shown → ViewData = λ what. record { session = session; number = opened_count past session; state = live_now (record { bound = bound; edit = 0; shown = what; base = record { version = history.version past; edit = 0 }; dirty = dirty_of bound [] false }) } in
@@ -147,7 +146,7 @@ opened_is was now past session bound next version plan t rows seen live h table 
       unnamed = refl;
       holds = λ asked read n at. (
         rw (kept_data, opened_now, number) (opened_views (map view_data kept) counts past session asked plan bound n at seen h.0 lt read shows_rows),
-        rw (all, number) (subst (AllZip (Stands t) (kept ++ entry (opened_count past session) (base (history.version past)) ∷ [])) (sym (ap (λ r. with_opened session (opened_count past session) bound r (views past)) read)) (stands_push t kept (views past) (entry (opened_count past session) (base (history.version past))) w h.1 its)),
+        rw (all, number) (subst (AllZip (Stands t) (kept ++ entry (opened_count past session) (base (history.version past)) ∷ [])) (sym (ap (λ r. with_opened session (opened_count past session) bound r (views past)) read)) (stands_push t kept (views past) (entry (opened_count past session) (base (history.version past))) w h.1 (record { rows = its; opening = opens }))),
       );
     }
 

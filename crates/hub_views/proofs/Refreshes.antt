@@ -80,6 +80,37 @@ same_live live other a b c d e = by live.bound other.bound live.edit other.edit 
         → let x : LiveData = record { bound = b; edit = e; shown = s; base = m; dirty = d } in x ≡ record { bound = c; edit = f; shown = t; base = n; dirty = g }
     by b c e f s t m n d g p q r u v = cc
 
+-- a view that shows one side before a step and another after it is kept as it is then, where what is touched between
+-- them is joined
+pub record IsJoined (past : List PastStep) (d : PastStep) (s n most edits : ℕ) (a b : Side) (live : LiveData) : Type 0 where
+  pub shows : shown_in past s n ≡ view a
+  pub places : placed_in past s n ≡ placed a
+  pub shows_now : shown_in (d ∷ past) s n ≡ view b
+  pub places_now : placed_in (d ∷ past) s n ≡ placed b
+  pub bound : live.bound ≡ most
+  pub edit : live.edit ≡ edits
+  pub shown : live.shown ≡ view b
+  pub base : live.base ≡ (base_or_none past s n).mark
+  pub dirty : live.dirty ≡ dirty_of most (joined (marked (base_or_none past s n).shown.rows (dirty past s n)) (touched_between a b)) (head_dirty past s n || head_touched a b)
+
+pub joined_is : (past : List PastStep) (d : PastStep) (s n bound edit : ℕ) (a b : Side) (live : LiveData) → is_base s n d ≡ false → IsJoined past d s n bound edit a b live
+    → live ≡ live_at (d ∷ past) s n bound edit
+joined_is past d s n bound edit a b live other is =
+    let at_base : List ShownRow = (base_or_none past s n).shown.rows in
+    let touched : List ViewKey = touched_keys (placed_in past s n) (placed_in (d ∷ past) s n) in
+    let marks : touched_between a b ≡ marked (shown_in past s n).rows touched =
+    ap (λ (x : Shown). marked x.rows (touched_keys (placed a) (placed b))) (sym is.shows)
+    ∙ ap (λ ps. marked (shown_in past s n).rows (touched_keys ps (placed b))) (sym is.places) ∙ ap (λ ps. marked (shown_in past s n).rows (touched_keys (placed_in past s n) ps)) (sym is.places_now) in
+    let heads : head_touched a b ≡ header_differs (shown_in past s n) (shown_in (d ∷ past) s n) =
+    ap (λ x. header_differs x (view b)) (sym is.shows) ∙ ap (header_differs (shown_in past s n)) (sym is.shows_now) in
+    let dirt : live.dirty ≡ (live_next past s n bound edit (shown_in (d ∷ past) s n) (placed_in (d ∷ past) s n)).dirty =
+    is.dirty
+    ∙ ap (λ ks. dirty_of bound (joined (marked at_base (dirty past s n)) ks) (head_dirty past s n || head_touched a b)) marks
+    ∙ ap (λ ks. dirty_of bound ks (head_dirty past s n || head_touched a b)) (joined_since past s n touched)
+    ∙ ap (λ h. dirty_of bound (marked at_base (with_keys (dirty past s n) touched)) (head_dirty past s n || h)) heads in
+    same_live live (live_next past s n bound edit (shown_in (d ∷ past) s n) (placed_in (d ∷ past) s n)) is.bound is.edit (is.shown ∙ sym is.shows_now) is.base dirt
+    ∙ sym (next_is past d s n bound edit other)
+
 -- a live view that is brought to the table after a step is kept as it is then
 pub brought_is : (past : List PastStep) (d : PastStep) (v : HeldView) (was now : TableData) (before after : ℕ) (changes : List RowChange) (old live : LiveView)
     → HoldsTable was before past → HoldsTable now after (d ∷ past) → AreSteps was changes now
@@ -90,35 +121,26 @@ pub brought_is : (past : List PastStep) (d : PastStep) (v : HeldView) (was now :
 brought_is past d v was now before after changes old live table table_now steps held w held_now plans openings other stands is brought =
     let s = v.session in
     let n = v.number in
-    let at_base : List ShownRow = (base_or_none past s n).shown.rows in
+    let keys = marked (base_or_none past s n).shown.rows (dirty past s n) in
     let a : Side = side_of v.plan v.opening was in
     let b : Side = side_of v.plan v.opening now in
-    let shows : shown_in past s n ≡ view a = shown_at past v held ∙ table_view was before past table v in
-    let places : placed_in past s n ≡ placed a = placed_at past v held ∙ table_placed was before past table v in
-    let same_plan : view (side_of w.plan w.opening now) ≡ view b = ap (λ p. view (side_of p w.opening now)) plans ∙ ap (λ o. view (side_of v.plan o now)) openings in
-    let same_places : placed (side_of w.plan w.opening now) ≡ placed b = ap (λ p. placed (side_of p w.opening now)) plans ∙ ap (λ o. placed (side_of v.plan o now)) openings in
-    let shows_now : shown_in (d ∷ past) s n ≡ view b = ap (shown_by (d ∷ past)) held_now ∙ table_view now after (d ∷ past) table_now w ∙ same_plan in
-    let places_now : placed_in (d ∷ past) s n ≡ placed b = ap (placed_by (d ∷ past)) held_now ∙ table_placed now after (d ∷ past) table_now w ∙ same_places in
+    let same : side_of w.plan w.opening now ≡ b = ap (λ p. side_of p w.opening now) plans ∙ ap (λ o. side_of v.plan o now) openings in
     let step = steps v.plan v.opening in
-    let seen : (live_data live).shown ≡ view b = shows_flat live.rows b (brought.stands a stands step) (table_keys now after (d ∷ past) table_now) in
-    let bounds : live.bound ≡ v.bound = brought.bound ∙ ap (λ (x : LiveData). x.bound) is in
-    let touched : List ViewKey = touched_keys (placed_in past s n) (placed_in (d ∷ past) s n) in
-    let of_dirt : live.dirty ≡ dirty_of old.dirty.bound (joined (marked at_base (dirty past s n)) (touched_between a b)) (head_dirty past s n || head_touched a b) =
-    brought.dirty a (marked at_base (dirty past s n)) (head_dirty past s n) stands step (ap (λ (x : LiveData). x.dirty) is ∙ ap (λ k. dirty_of k (marked at_base (dirty past s n)) (head_dirty past s n)) (sym (ap (λ (x : LiveData). x.dirty.bound) is))) in
-    let marks : touched_between a b ≡ marked (shown_in past s n).rows touched =
-    ap (λ (x : Shown). marked x.rows (touched_keys (placed a) (placed b))) (sym shows)
-    ∙ ap (λ ps. marked (shown_in past s n).rows (touched_keys ps (placed b))) (sym places) ∙ ap (λ ps. marked (shown_in past s n).rows (touched_keys (placed_in past s n) ps)) (sym places_now) in
-    let heads : head_touched a b ≡ header_differs (shown_in past s n) (shown_in (d ∷ past) s n) =
-    ap (λ x. header_differs x (view b)) (sym shows) ∙ ap (header_differs (shown_in past s n)) (sym shows_now) in
-    let dirt : live.dirty ≡ (live_next past s n v.bound v.edit (shown_in (d ∷ past) s n) (placed_in (d ∷ past) s n)).dirty =
-    of_dirt
-    ∙ ap (λ k. dirty_of k (joined (marked at_base (dirty past s n)) (touched_between a b)) (head_dirty past s n || head_touched a b)) (ap (λ (x : LiveData). x.dirty.bound) is)
-    ∙ ap (λ ks. dirty_of v.bound (joined (marked at_base (dirty past s n)) ks) (head_dirty past s n || head_touched a b)) marks
-    ∙ ap (λ ks. dirty_of v.bound ks (head_dirty past s n || head_touched a b)) (joined_since past s n touched)
-    ∙ ap (λ h. dirty_of v.bound (marked at_base (with_keys (dirty past s n) touched)) (head_dirty past s n || h)) heads in
-    same_live (live_data live) (live_next past s n v.bound v.edit (shown_in (d ∷ past) s n) (placed_in (d ∷ past) s n)) bounds (brought.edit ∙ ap (λ (x : LiveData). x.edit) is)
-    (seen ∙ sym shows_now) (brought.base ∙ ap (λ (x : LiveData). x.base) is) dirt
-    ∙ sym (next_is past d s n v.bound v.edit other)
+    let bounds : old.dirty.bound ≡ v.bound = ap (λ (x : LiveData). x.dirty.bound) is in
+    let was_dirty : old.dirty ≡ dirty_of old.dirty.bound keys (head_dirty past s n) =
+    ap (λ (x : LiveData). x.dirty) is ∙ ap (λ k. dirty_of k keys (head_dirty past s n)) (sym bounds) in
+    joined_is past d s n v.bound v.edit a b (live_data live) other (record {
+      shows = shown_at past v held ∙ table_view was before past table v;
+      places = placed_at past v held ∙ table_placed was before past table v;
+      shows_now = ap (shown_by (d ∷ past)) held_now ∙ table_view now after (d ∷ past) table_now w ∙ ap view same;
+      places_now = ap (placed_by (d ∷ past)) held_now ∙ table_placed now after (d ∷ past) table_now w ∙ ap placed same;
+      bound = brought.bound ∙ ap (λ (x : LiveData). x.bound) is;
+      edit = brought.edit ∙ ap (λ (x : LiveData). x.edit) is;
+      shown = shows_flat live.rows b (brought.stands a stands step) (table_keys now after (d ∷ past) table_now);
+      base = brought.base ∙ ap (λ (x : LiveData). x.base) is;
+      dirty = brought.dirty a keys (head_dirty past s n) stands step was_dirty
+          ∙ ap (λ k. dirty_of k (joined keys (touched_between a b)) (head_dirty past s n || head_touched a b)) bounds;
+    })
 
 -- ---- the loop over the views
 

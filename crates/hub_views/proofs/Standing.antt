@@ -75,7 +75,7 @@ stands_rebased_one t session number mark u v h = by (eqb number u.number && eqb 
   where
     by : (b : Bool) (state : ViewState) → Stands t (record { session = u.session; number = u.number; state = state }) v
         → Stands t (if b then record { session = u.session; number = u.number; state = rebased mark state } else record { session = u.session; number = u.number; state = state }) v
-    by true (Live live) stands = stands
+    by true (Live live) stands = record { rows = stands.rows; opening = stands.opening }
     by true (Lost at) stands = tt
     by false state stands = stands
 
@@ -121,7 +121,7 @@ stands_still was now v (Live live) still h =
     let with_parts : List Column → Store → Side = λ columns store. record { columns = columns; plan = v.plan; opening = v.opening; pairs = store.pairs } in
     let same : side_of v.plan v.opening now ≡ side_of v.plan v.opening was =
     ap (λ (s : SchemaData). with_parts s.columns now.store) still.schema ∙ ap (with_parts was.schema.columns) still.store in
-    subst (StandsFlat live.rows) (sym same) h
+    record { rows = subst (StandsFlat live.rows) (sym same) h.rows; opening = h.opening }
 
 all_stand_still : (was now : TableData) (us : List View) (vs : List HeldView) → IsStill was now → AllZip (Stands was) us vs → AllZip (Stands now) us vs
 all_stand_still was now [] [] still h = tt

@@ -155,7 +155,7 @@ left_gives v after t past session closed h count counts dropped =
 -- ---- a view is opened
 
 -- the plan is read for the table's schema
-read_for : (t : TableData) (number : ℕ) (past : List PastStep) (asked : RawData) → HoldsTable t number past → plan_asked (schema_or_none past) asked ≡ plan_asked t.schema asked
+pub read_for : (t : TableData) (number : ℕ) (past : List PastStep) (asked : RawData) → HoldsTable t number past → plan_asked (schema_or_none past) asked ≡ plan_asked t.schema asked
 read_for t number past asked h = ap (λ (o : Option SchemaData). plan_asked (unwrap_or o no_schema) asked) h.schema
 
 pub plan_is_refused : (v : Views) (t : TableData) (past : List PastStep) (session bound number : ℕ) (asked : RawData) (why : Refusal) → HoldsViews v t past → HoldsTable t number past

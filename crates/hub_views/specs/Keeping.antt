@@ -92,8 +92,12 @@ pub record Keeps (kept : List ViewData) (counts : List ℕ) (past : List PastSte
   pub numbered : AreNumbered (held.opened_count past) (held.views past)
 
 -- the rows of a view that can be asked stand for what its plan makes of the table's
+pub record IsLive (t : TableData) (h : HeldView) (live : LiveView) : Type 0 where
+  pub rows : StandsFlat live.rows (side_of h.plan h.opening t)
+  pub opening : live.opening ≡ h.opening
+
 abbrev pub StandsIn : TableData → HeldView → ViewState → Type 0
-StandsIn t h (Live live) = StandsFlat live.rows (side_of h.plan h.opening t)
+StandsIn t h (Live live) = IsLive t h live
 StandsIn t h (Lost version) = ⊤
 
 abbrev pub Stands : TableData → View → HeldView → Type 0

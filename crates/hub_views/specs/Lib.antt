@@ -1,3 +1,4 @@
+pub mod Editing
 pub mod Keeping
 pub mod Live
 pub mod Refreshing

@@ -10,6 +10,7 @@ use Rattle.flat_live.specs.Flat.{flat_shown}
 use Rattle.flat_live.specs.declared.live.FlatLive.{FlatLive}
 use Rattle.frame_types.specs.declared.reply.Body.{Body}
 use Rattle.frame_types.specs.declared.reply.Body.TheVariants as body
+use Rattle.view_spec.specs.Openings.{Opening}
 use Rattle.hub_views.specs.declared.live.LiveView.{LiveView}
 use Rattle.hub_views.specs.declared.view.View.{View}
 use Rattle.hub_views.specs.declared.view.ViewState.{ViewState}
@@ -46,8 +47,8 @@ view_data v = record { session = v.session; number = v.number; state = state_dat
 -- ---- what it tells
 
 -- a view of these rows whose base is this mark
-abbrev pub fresh_live : ℕ → Mark → FlatLive → LiveView
-fresh_live bound base rows = record { bound = bound; edit = base.edit; rows = rows; base = base; dirty = dirty_of bound [] false }
+abbrev pub fresh_live : ℕ → Mark → FlatLive → Opening → LiveView
+fresh_live bound base rows opening = record { bound = bound; edit = base.edit; rows = rows; opening = opening; base = base; dirty = dirty_of bound [] false }
 
 -- the delta from its base to a mark where at most so many keys as its bound were touched, and else all that it shows
 abbrev pub live_take_answer : LiveData → List (ViewKey × Touch) → Bool → ℕ → Mark → Body

@@ -36,6 +36,7 @@ pub record IsBrought (changes : List RowChange) (now : TableData) (was after : L
   pub bound : after.bound ≡ was.bound
   pub edit : after.edit ≡ was.edit
   pub base : after.base ≡ was.base
+  pub opening : after.opening ≡ was.opening
   pub stands : (s : Side) → StandsFlat was.rows s → IsStep s changes now → StandsFlat after.rows (side_at s now)
   pub dirty : (s : Side) (keys : List (ViewKey × Touch)) (header : Bool) → StandsFlat was.rows s → IsStep s changes now → was.dirty ≡ dirty_of was.dirty.bound keys header
       → after.dirty ≡ dirty_of was.dirty.bound (joined keys (touched_between s (side_at s now))) (header || head_touched s (side_at s now))

@@ -1,4 +1,4 @@
-ghost use Rattle.std.specs.Prelude.{◌≡◌, ◌==◌, ◌+◌, ◌≤◌, ◌++◌, filter, find, length, map, not};
+ghost use Rattle.std.specs.Prelude.{◌≡◌, ◌==◌, ◌+◌, ◌≤◌, ◌++◌, filter, find, length, map, not, position};
 ghost use Rattle.std.specs.Option.{option_copied};
 ghost use Rattle.std.specs.Vec.{vec_len, vec_capacity};
 ghost use Rattle.hub_views.specs.Keeping.{is_kept};
@@ -20,6 +20,15 @@ pub fn find_view(views: &[View], session: u32, number: u64) -> Option<&View>
     views
         .iter()
         .find(|view| view.session == session && view.number == number)
+}
+
+/// The place of the view that the session holds under a number.
+pub fn place_of(views: &[View], session: u32, number: u64) -> Option<usize>
+    ensures { result ≡ position (is_kept session number) views.now }
+{
+    views
+        .iter()
+        .position(|view| view.session == session && view.number == number)
 }
 
 /// Makes a mark the base of the view that the session holds under a number, if it can still be asked.

@@ -43,7 +43,7 @@ fn checked(alloc: Global, schema: &Schema, raw: &RawPlan) -> Result<Result<Plan,
 }
 
 /// Whether a plan has groups, splits or aggregates.
-fn is_unbuilt(plan: &Raw) -> bool
+pub fn is_unbuilt(plan: &Raw) -> bool
     ensures { result ≡ is_unbuilt (raw_view plan.now) }
 {
     match plan {

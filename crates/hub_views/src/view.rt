@@ -1,10 +1,15 @@
-ghost use Rattle.std.specs.Prelude.{◌≡◌};
+ghost use Rattle.std.specs.Prelude.{◌≡◌, false};
+ghost use Rattle.cell_core.specs.RawViews.{raw_view};
+ghost use Rattle.hub_spec.specs.Plans.{is_unbuilt, plan_asked};
+ghost use Rattle.hub_views.specs.Editing.{AnswersEditOf};
 ghost use Rattle.hub_views.specs.Live.{rebased, rebased_at};
 ghost use Rattle.hub_views.specs.Refreshing.{IsRefreshed, is_loss};
 
 use crate::live::LiveView;
-use cell_core::Steps;
+use crate::refused;
+use cell_core::{Raw, Steps};
 use delta_core::Mark;
+use frame_types::Refusal;
 use row_batch::RowChange;
 use std::alloc::Global;
 use std::sync::ledger::Ledger;
@@ -34,6 +39,24 @@ impl View {
     {
         if number == self.number && session == self.session {
             self.state.rebase(mark);
+        }
+    }
+
+    /// Changes its plan to the one that a value stands for, where it can be asked, and answers how many edits there were
+    /// by then. After a refusal the view is as before.
+    pub fn edit<L: Ledger>(
+        &mut self,
+        alloc: Global,
+        plan: &Raw,
+        table: &Table,
+        steps: &mut Steps<L>,
+    ) -> Result<u64, Refusal>
+        requires { is_unbuilt (raw_view plan.now) ≡ false }
+        ensures { AnswersEditOf (plan_asked table.now.schema (raw_view plan.now)) table.now self.old self.new result }
+    {
+        match &mut self.state {
+            ViewState::Live(live) => live.edit(alloc, plan, table, steps),
+            ViewState::Lost(version) => Err(refused::view_lost(*version)),
         }
     }
 

@@ -11,9 +11,9 @@ ghost use Rattle.hub_views.specs.Refreshing.{AreLosses, AreSteps, HasRoom, appli
 ghost use Rattle.hub_views.specs.Tables.{HoldsTable};
 ghost use Rattle.table_core.specs.Tables.{TableData};
 
-use crate::list::{count_views, drop_view, drop_views, find_view, rebase, refresh_each};
+use crate::list::{count_views, drop_view, drop_views, find_view, place_of, rebase, refresh_each};
 use crate::live::LiveView;
-use crate::plans::plan_asked;
+use crate::plans::{is_unbuilt, plan_asked};
 use crate::refused;
 use crate::showing::{show_all, show_window};
 use crate::view::{View, ViewState};
@@ -27,6 +27,7 @@ use std::alloc::Global;
 use std::sync::ledger::Ledger;
 use table_core::Table;
 use view_kept::KeptView;
+use view_shape::OpenState;
 
 /// The most views that are held, over all sessions.
 pub const MAX_VIEWS: usize = 16;
@@ -108,7 +109,8 @@ impl Views {
         let rows = build(self.alloc, plan, table, steps)?;
         let shown = show_all(self.alloc, &rows)?;
         let edit = 0;
-        let live = LiveView::new(self.alloc, rows, Mark { version, edit }, bound);
+        let opening = OpenState::new(self.alloc, 0);
+        let live = LiveView::new(self.alloc, rows, opening, Mark { version, edit }, bound);
         let number = self.opened[session as usize];
         self.items.push(View {
             session,
@@ -121,6 +123,29 @@ impl Views {
             shown,
             view: number,
         })
+    }
+
+    /// Changes the plan of a view, which keeps its base. `steps` counts the visits of rows.
+    pub fn edit<L: Ledger>(
+        &mut self,
+        session: u32,
+        view: u64,
+        plan: &Raw,
+        table: &Table,
+        steps: &mut Steps<L>,
+    ) -> Result<Body, Refusal>
+        ensures gives { (version : ℕ) → AnswersAfter (λ past. HoldsViews self.old table.now past × HoldsTable table.now version past)
+            session (ask.edit_view view (raw_view plan.now)) (body_in result) (HoldsViews self.new table.now) }
+        ensures about { (at : ℕ) → IsOfViews at (body_in result) }
+    {
+        if is_unbuilt(plan) {
+            return Err(refused::unbuilt());
+        }
+        let Some(place) = place_of(self.items.as_slice(), session, view) else {
+            return Err(refused::no_view());
+        };
+        let edit = self.items[place].edit(self.alloc, plan, table, steps)?;
+        Ok(Body::Edited { edit, view })
     }
 
     /// Tells what changed in a view since its base, or all that it shows, where more keys were touched than

@@ -50,6 +50,13 @@ returns-in-Open-clause-gives g c = λ past h few.
     (views_give e.table e.version e.ports e.views _ past c.args.session 0 (ask.open_view (raw_view c.in-Open.plan) c.in-Open.bound) _ h (c.open.ensures.about 0)
     (c.open.ensures.gives past (h.views, h.table) few))
 
+pub returns-in-Edit-clause-gives : goal.returns-in-Edit-clause-gives
+returns-in-Edit-clause-gives g c = λ past h few.
+    let e = c.args.self.now in
+    rw c.in-Edit.is
+    (views_give e.table e.version e.ports e.views _ past c.args.session 0 (ask.edit_view c.in-Edit.view (raw_view c.in-Edit.plan)) _ h (c.edit.ensures.about 0)
+    (c.edit.ensures.gives e.version past (h.views, h.table) few))
+
 pub returns-in-Take-clause-gives : goal.returns-in-Take-clause-gives
 returns-in-Take-clause-gives g c = λ past h few.
     let e = c.args.self.now in
@@ -80,6 +87,9 @@ returns-in-Leave-clause-ends g c = let e = c.args.self.now in views_end e.versio
 
 pub returns-in-Open-clause-ends : goal.returns-in-Open-clause-ends
 returns-in-Open-clause-ends g c = let e = c.args.self.now in views_end e.version _ (c.open.ensures.about e.version)
+
+pub returns-in-Edit-clause-ends : goal.returns-in-Edit-clause-ends
+returns-in-Edit-clause-ends g c = let e = c.args.self.now in views_end e.version _ (c.edit.ensures.about e.version)
 
 pub returns-in-Take-clause-ends : goal.returns-in-Take-clause-ends
 returns-in-Take-clause-ends g c = let e = c.args.self.now in views_end e.version _ c.take.ensures.about
