@@ -5,7 +5,6 @@ use Rattle.std.specs.List.{AllByRecursion, IsDistinct}
 use Rattle.std.specs.List.Sorted.{IsStrictlySortedBy}
 use Rattle.std.specs.Map.{keys_of, lookup}
 use Rattle.std.specs.Option.{option_map}
-use Rattle.std.proofs.lemmas.List.Sorted.{IsPermutation-sym}
 use Rattle.plain_data.specs.Distinct.{AreDistinct}
 use Rattle.cell_core.specs.declared.cell.Cell.{Cell}
 use Rattle.cell_core.specs.declared.schema.Column.{Column}
@@ -13,6 +12,7 @@ use Rattle.row_batch.specs.Changes.{changed_all, row_at}
 use Rattle.row_batch.specs.Tables.{keys_of_rows}
 use Rattle.row_batch.specs.declared.batch.Pair.{Pair}
 use Rattle.row_batch.specs.declared.change.RowChange.{RowChange}
+use Rattle.row_batch.proofs.ChangeLists.{distinct_changed_all}
 use Rattle.row_batch.proofs.Steps.{distinct_reordered}
 use Rattle.plan_types.specs.declared.plan.Plan.{Plan}
 use Rattle.place_order.specs.Places.{place_order}
@@ -135,12 +135,10 @@ columns_same : (s : Side) (columns : List Column) (pairs : List Pair) → column
     x ≡ record { columns = columns; plan = s.plan; opening = s.opening; pairs = pairs }
 columns_same s columns pairs h = λ i. record { columns = sym h i; plan = s.plan; opening = s.opening; pairs = pairs }
 
-pub distinct_now : (s : Side) (cs : List RowChange) (table : TableData) → IsStep s cs table → AreDistinct (keys_of_rows table.store.pairs) → AreDistinct (keys_of_rows (changed_all s.pairs cs))
-distinct_now s cs table step distinct = distinct_reordered table.store.pairs (changed_all s.pairs cs) (IsPermutation-sym (changed_all s.pairs cs) table.store.pairs step.lead) distinct
-
-pub placed_at : (s : Side) (cs : List RowChange) (table : TableData) → IsStep s cs table → AreDistinct (keys_of_rows table.store.pairs) → placed (changed_side s cs) ≡ placed (side_at s table)
-placed_at s cs table step distinct =
-    placed-IsPermutation (changed_side s cs) table.store.pairs (distinct_now s cs table step distinct) distinct step.lead
+pub placed_at : (s : Side) (cs : List RowChange) (table : TableData) → IsStep s cs table → placed (changed_side s cs) ≡ placed (side_at s table)
+placed_at s cs table step =
+    let distinct : AreDistinct (keys_of_rows (changed_all s.pairs cs)) = distinct_changed_all s.pairs cs step.keys in
+    placed-IsPermutation (changed_side s cs) table.store.pairs distinct (distinct_reordered (changed_all s.pairs cs) table.store.pairs step.lead distinct) step.lead
     ∙ ap placed (columns_same s table.schema.columns table.store.pairs step.columns)
 
 pub header_at : (s : Side) (table : TableData) → s.plan.split_by ≡ [] → table.schema.columns ≡ s.columns → (view s).header ≡ (view (side_at s table)).header
@@ -153,13 +151,13 @@ pub head_untouched : (a b : Side) → (view a).header ≡ (view b).header → fa
 head_untouched a b same = sym (ap (λ h. not (same_header (view a).header h)) (sym same) ∙ ap not (same_header_itself (view a).header))
 
 pub steps_of : (s : Side) (plan : Plan) (header : List HeaderColumn) (first new : List FlatRow) (cs : List RowChange) (table : TableData) → plan ≡ s.plan → header ≡ (view s).header → IsFlatPlan s.columns s.plan
-    → map (as_placed header) first ≡ placed s → IsStep s cs table → AreDistinct (keys_of_rows table.store.pairs) → IsLive new → ((k : ViewKey) → at_key live_key k new ≡ settled plan first cs k) → Steps s header first new cs
-steps_of s plan header first new cs table same head fits shown step distinct live rows = record {
+    → map (as_placed header) first ≡ placed s → IsStep s cs table → IsLive new → ((k : ViewKey) → at_key live_key k new ≡ settled plan first cs k) → Steps s header first new cs
+steps_of s plan header first new cs table same head fits shown step live rows = record {
   flat = fits.flat;
   none = fits.whole;
   head = head ∙ header-unsplit s.columns s.plan (kept s.plan s.pairs) fits.whole;
   keys = step.keys;
-  keys_now = distinct_now s cs table step distinct;
+  keys_now = distinct_changed_all s.pairs cs step.keys;
   shown = shown;
   live = live;
   rows = λ k. rows k ∙ ap (λ p. settled p first cs k) same;

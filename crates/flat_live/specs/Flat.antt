@@ -1,8 +1,9 @@
 -- What a live flat view stands for.
-use Rattle.std.specs.Prelude.{◌≡◌, List, [], ◌∷◌, map, refl}
+use Rattle.std.specs.Prelude.{◌≡◌, ℕ, List, [], ◌∷◌, map, refl}
 use Rattle.std.proofs.Common.{◌∙◌, ap}
 use Rattle.view_types.specs.declared.shown.HeaderColumn.{HeaderColumn}
 use Rattle.view_spec.specs.declared.placed.PlacedRow.{PlacedRow}
+use Rattle.row_batch.specs.declared.change.RowChange.{RowChange}
 use Rattle.plan_types.specs.declared.plan.Plan.{Plan}
 use Rattle.table_core.specs.Tables.{TableData}
 use Rattle.view_types.specs.declared.shown.Shown.{Shown}
@@ -25,6 +26,10 @@ pub record StandsFlat (v : FlatLive) (s : Side) : Type 0 where
 
 abbrev pub fits_flat : FlatLive → Plan → TableData → Type 0
 fits_flat v plan table = IsFlatPlan table.schema.columns plan
+
+-- a step counts no visit
+abbrev pub counts_flat : FlatLive → List RowChange → TableData → ℕ → ℕ → Type 0
+counts_flat v changes table before after = after ≡ before
 
 rows_through : (header : List HeaderColumn) (xs : List FlatRow) → map (shown_row header) xs ≡ map (λ (p : PlacedRow). p.row) (map (as_placed header) xs)
 rows_through header [] = refl

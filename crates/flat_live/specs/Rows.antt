@@ -1,5 +1,5 @@
 -- The rows that a live flat view keeps, and what is shown of them.
-use Rattle.std.specs.Prelude.{◌≡◌, ℕ, List, [], ◌∷◌, ◌++◌, Bool, false, cond, map, Option, Some, None, is_some, option_map}
+use Rattle.std.specs.Prelude.{◌≡◌, ℕ, List, [], ◌∷◌, Bool, false, cond, map, Option, Some, None, is_some, option_map}
 use Rattle.std.specs.Map.{lookup}
 use Rattle.value_core.specs.declared.value.Value.{Value}
 use Rattle.cell_core.specs.Cells.{value_of}
@@ -10,7 +10,6 @@ use Rattle.row_batch.specs.declared.batch.Pair.{Pair}
 use Rattle.row_batch.specs.declared.change.RowChange.{RowChange}
 use Rattle.plan_types.specs.declared.plan.Plan.{Plan}
 use Rattle.place_order.specs.declared.rank.Rank.{Rank}
-use Rattle.place_order.specs.declared.rank.Rank.TheVariants.{Asc}
 use Rattle.view_types.specs.Keys.{same_key}
 use Rattle.view_types.specs.declared.key.ViewKey.{ViewKey}
 use Rattle.view_types.specs.declared.key.ViewKey.TheVariants.{Row, Group}

@@ -1,7 +1,4 @@
-ghost use Rattle.std.specs.Prelude.{◌≡◌, ◌-◌, IfOk, OnOk, [], drop, false, map, take};
-ghost use Rattle.view_spec.specs.Touching.{head_touched};
-ghost use Rattle.view_spec.specs.Views.{Side};
-ghost use Rattle.view_kept.specs.Steps.{IsStep, side_at, touched_between};
+ghost use Rattle.std.specs.Prelude.{◌≡◌, ◌-◌, IfOk, drop, map, take};
 ghost use Rattle.flat_live.specs.Rows.{shown_row};
 
 use crate::building::build;
@@ -54,7 +51,15 @@ impl ShownNow for FlatLive {
 }
 
 impl FlatLive {
-    ghost use Rattle.flat_live.specs.Flat.{StandsFlat, flat_shown};
+    ghost use Rattle.delta_core.specs.Rows.{position_of};
+    ghost use Rattle.flat_live.specs.Flat.{flat_shown};
+
+    /// The position of the row with that key, counted from 0, and none exactly where no row has it.
+    pub fn place_of(&self, key: &ViewKey) -> Option<usize>
+        ensures { result ≡ position_of key.now (flat_shown self.now).rows }
+    {
+        self.position(key)
+    }
 
     /// The rows at positions from `from` up to and without `to`, as far as there are any.
     fn rows_in(&self, alloc: Global, from: u64, to: u64) -> Result<ShownRows, Memory>
@@ -64,41 +69,16 @@ impl FlatLive {
         let rows = rows_between(alloc, self.header.as_slice(), &self.rows, from, to)?;
         Ok(ShownRows::from_listed(Listed::from_vec(rows)))
     }
-
-    /// Brings the view to what the table's rows are after these changes, and tells what that touched.
-    fn take_changes(
-        &mut self,
-        alloc: Global,
-        table: &Table,
-        changes: &[RowChange],
-        touched: &mut Touched,
-    ) -> Result<(), Memory>
-        requires empty { touched.old.keys ≡ [] }
-        requires clear { touched.old.header ≡ false }
-        ensures stands { (s : Side) → StandsFlat self.old s → IsStep s changes.now table.now → OnOk result (StandsFlat self.new (side_at s table.now)) }
-        ensures keys { (s : Side) → StandsFlat self.old s → IsStep s changes.now table.now → OnOk result (touched.new.keys ≡ touched_between s (side_at s table.now)) }
-        ensures header { (s : Side) → StandsFlat self.old s → IsStep s changes.now table.now → OnOk result (touched.new.header ≡ head_touched s (side_at s table.now)) }
-    {
-        let _size = table.len();
-        settle_all(
-            alloc,
-            &self.plan,
-            self.header.as_slice(),
-            changes,
-            &mut self.rows,
-            &mut touched.keys,
-        )?;
-        let _count = self.rows.len();
-        Ok(())
-    }
 }
 
 impl KeptView for FlatLive {
-    ghost use Rattle.flat_live.specs.Flat.{StandsFlat, fits_flat, shows_flat};
+    ghost use Rattle.flat_live.specs.Flat.{StandsFlat, counts_flat, fits_flat, shows_flat};
 
     ghost stands_for = { StandsFlat };
 
     ghost fits = { fits_flat };
+
+    ghost counts = { counts_flat };
 
     fn len(&self) -> usize {
         self.rows.len()
@@ -111,12 +91,21 @@ impl KeptView for FlatLive {
     fn apply<L: Ledger>(
         &mut self,
         alloc: Global,
-        table: &Table,
+        _table: &Table,
         changes: &[RowChange],
         touched: &mut Touched,
         _steps: &mut Steps<L>,
     ) -> Result<(), Memory> {
-        self.take_changes(alloc, table, changes, touched)
+        settle_all(
+            alloc,
+            &self.plan,
+            self.header.as_slice(),
+            changes,
+            &mut self.rows,
+            &mut touched.keys,
+        )?;
+        let _count = self.rows.len();
+        Ok(())
     }
 
     fn reshape<L: Ledger>(

@@ -10,16 +10,18 @@ use place_order::{Place, Rank, RankValue};
 use plan_types::{Plan, Sort};
 use std::alloc::Global;
 
-/// A row's place: its ranks in the order of the plan's sorts, and then its key. Want of memory is the only refusal.
+/// A row's place: its ranks in the order of the plan's sorts, and then its key, with no room to spare. Want of memory
+/// is the only refusal.
 pub fn place_of_row(alloc: Global, plan: &Plan, key: &Cell, row: &Row) -> Result<Place, Memory>
     ensures { IfOk result (λ place. place ≡ row_place plan.now (pair_of key.now row.now)) }
 {
-    let mut place = Listed::new(alloc);
-    for sort in plan.sorts.as_slice() {
-        place.push(sort_rank(alloc, sort, row.as_slice())?)?;
+    let sorts = plan.sorts.as_slice();
+    let mut ranks = Vec::with_capacity(alloc, sorts.len() + 1)?;
+    for sort in sorts {
+        ranks.push(sort_rank(alloc, sort, row.as_slice())?)?;
     }
-    place.push(Rank::Asc(key.value(alloc)?))?;
-    Ok(place)
+    ranks.push(Rank::Asc(key.value(alloc)?))?;
+    Ok(Listed::from_vec(ranks))
 }
 
 /// The rank of a row by one sort.

@@ -1,5 +1,6 @@
 -- What a flat view that is computed anew stands for.
-use Rattle.std.specs.Prelude.{◌≡◌, map}
+use Rattle.std.specs.Prelude.{◌≡◌, ℕ, List, map}
+use Rattle.row_batch.specs.declared.change.RowChange.{RowChange}
 use Rattle.plan_types.specs.declared.plan.Plan.{Plan}
 use Rattle.table_core.specs.Tables.{TableData}
 use Rattle.view_types.specs.declared.shown.Shown.{Shown}
@@ -21,6 +22,10 @@ pub record StandsPlain (v : PlainFlat) (s : Side) : Type 0 where
 
 abbrev pub fits_plain : PlainFlat → Plan → TableData → Type 0
 fits_plain v plan table = IsFlatPlan table.schema.columns plan
+
+-- a step may count any visits
+abbrev pub counts_plain : PlainFlat → List RowChange → TableData → ℕ → ℕ → Type 0
+counts_plain v changes table before after = Unit {0}
 
 pub shows_plain : (v : PlainFlat) (s : Side) → StandsPlain v s → HasKeys s → shown_of v ≡ view s
 shows_plain v s h keys = shown_by_parts (shown_of v) (view s) h.header (λ i. map (λ p. p.row) (h.rows i))

@@ -44,11 +44,13 @@ impl ShownNow for PlainFlat {
 }
 
 impl KeptView for PlainFlat {
-    ghost use Rattle.plain_kept.specs.Plain.{StandsPlain, fits_plain, shows_plain};
+    ghost use Rattle.plain_kept.specs.Plain.{StandsPlain, counts_plain, fits_plain, shows_plain};
 
     ghost stands_for = { StandsPlain };
 
     ghost fits = { fits_plain };
+
+    ghost counts = { counts_plain };
 
     fn len(&self) -> usize {
         self.shown.rows.as_slice().len()

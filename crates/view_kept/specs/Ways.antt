@@ -1,5 +1,6 @@
 -- A view that is kept in one of two ways.
-use Rattle.std.specs.Prelude.{◌≡◌}
+use Rattle.std.specs.Prelude.{◌≡◌, ℕ, List}
+use Rattle.row_batch.specs.declared.change.RowChange.{RowChange}
 use Rattle.view_types.specs.declared.shown.Shown.{Shown}
 use Rattle.plan_types.specs.declared.plan.Plan.{Plan}
 use Rattle.table_core.specs.Tables.{TableData}
@@ -19,6 +20,10 @@ stands_by first second (Second b) s = second b s
 abbrev pub fits_by : {A B : Type 0} → (A → Plan → TableData → Type 0) → (B → Plan → TableData → Type 0) → Ways A B → Plan → TableData → Type 0
 fits_by first second (First a) plan table = first a plan table
 fits_by first second (Second b) plan table = second b plan table
+
+abbrev pub counts_by : {A B : Type 0} → (A → List RowChange → TableData → ℕ → ℕ → Type 0) → (B → List RowChange → TableData → ℕ → ℕ → Type 0) → Ways A B → List RowChange → TableData → ℕ → ℕ → Type 0
+counts_by first second (First a) changes table before after = first a changes table before after
+counts_by first second (Second b) changes table before after = second b changes table before after
 
 pub shows_by : {A B : Type 0} {f : A → Shown} {g : B → Shown} {p : A → Side → Type 0} {q : B → Side → Type 0}
     → ((a : A) (s : Side) → p a s → HasKeys s → f a ≡ view s) → ((b : B) (s : Side) → q b s → HasKeys s → g b ≡ view s)

@@ -1,4 +1,5 @@
-ghost use Rattle.std.specs.Prelude.{◌≡◌, ◌-◌, ◌≤◌, [], false, length, take, drop, IfOk, OnOk};
+ghost use Rattle.std.specs.Prelude.{◌≡◌, ◌-◌, ℕ, List, [], false, length, take, drop, IfOk, OnOk};
+ghost use Rattle.row_batch.specs.declared.change.RowChange.{RowChange as ChangeData};
 ghost use Rattle.table_core.specs.Tables.{TableData};
 ghost use Rattle.plan_types.specs.declared.plan.Plan.{Plan as PlanData};
 ghost use Rattle.view_spec.specs.Laws.{HasKeys};
@@ -26,6 +27,9 @@ pub trait KeptView: ShownNow {
     /// By which plans it can be made over, for the rows of a table.
     ghost fits: { Self → PlanData → TableData → Type 0 };
 
+    /// How the counter of visits may stand before and after an `apply`, by the view before it, the changes and the table.
+    ghost counts: { Self → List ChangeData → TableData → ℕ → ℕ → Type 0 };
+
     /// How many rows are shown.
     fn len(&self) -> usize
         ensures { result ≡ length (Self.shown self.now).rows };
@@ -37,7 +41,7 @@ pub trait KeptView: ShownNow {
 
     /// Brings the view to the table's rows, to which the changes led from those of a side that it stood for, and tells
     /// what that touched: each touched key beside whether it was shown before the step, and whether the header is
-    /// another. `steps` counts the visits of rows.
+    /// another. `steps` counts the visits, as `counts` says, whatever is answered.
     ///
     /// Want of memory is the only refusal. After it nothing is said of the view, which is to be given up.
     fn apply<L: Ledger>(
@@ -52,7 +56,8 @@ pub trait KeptView: ShownNow {
         requires clear { touched.old.header ≡ false }
         ensures stands { (s : Side) → stands_for self.old s → IsStep s changes.now table.now → OnOk result (stands_for self.new (side_at s table.now)) }
         ensures keys { (s : Side) → stands_for self.old s → IsStep s changes.now table.now → OnOk result (touched.new.keys ≡ touched_between s (side_at s table.now)) }
-        ensures header { (s : Side) → stands_for self.old s → IsStep s changes.now table.now → OnOk result (touched.new.header ≡ head_touched s (side_at s table.now)) };
+        ensures header { (s : Side) → stands_for self.old s → IsStep s changes.now table.now → OnOk result (touched.new.header ≡ head_touched s (side_at s table.now)) }
+        ensures steps { counts self.old changes.now table.now steps.old steps.new };
 
     /// The view of the same rows by another plan or another opening, and what that touches. This view stays as it is.
     ///

@@ -13,6 +13,8 @@ use view_shape::OpenState;
 use view_types::{Header, ShownRow, ShownRows, ViewKey};
 
 /// A view that is kept in one of two ways. It is made over in the way in which it is kept.
+///
+/// The program doesn't use it yet, since all views that it opens are flat.
 #[derive(Drop)]
 pub enum Ways<A: KeptView + Drop, B: KeptView + Drop> {
     First(A),
@@ -47,11 +49,13 @@ impl<A: KeptView + Drop, B: KeptView + Drop> ShownNow for Ways<A, B> {
 }
 
 impl<A: KeptView + Drop, B: KeptView + Drop> KeptView for Ways<A, B> {
-    ghost use Rattle.view_kept.specs.Ways.{fits_by, stands_by, shows_by};
+    ghost use Rattle.view_kept.specs.Ways.{counts_by, fits_by, stands_by, shows_by};
 
     ghost stands_for = { stands_by A.stands_for B.stands_for };
 
     ghost fits = { fits_by A.fits B.fits };
+
+    ghost counts = { counts_by A.counts B.counts };
 
     fn len(&self) -> usize {
         match self {

@@ -1,4 +1,4 @@
-use Rattle.std.proofs.Common.{◌+◌, true, false, List, Some, cond, drop, is_some, ap, sym, subst, ◌∙◌}
+use Rattle.std.proofs.Common.{◌+◌, true, List, Some, cond, drop, is_some, ap, sym, subst, ◌∙◌}
 use Rattle.std.specs.Prelude.{OnOk}
 use Rattle.std.specs.Map.{lookup}
 use Rattle.row_batch.specs.declared.change.RowChange.{RowChange}

@@ -1,15 +1,11 @@
-use Rattle.std.proofs.Common.{◌≡◌, true, Some, cond, ap, sym, ◌∙◌}
-use Rattle.row_batch.specs.Batches.{pair_of}
+use Rattle.std.proofs.Common.{cond, ap, sym, ◌∙◌}
 use Rattle.delta_core.specs.Rows.{at_key}
 use Rattle.view_types.specs.Keys.{same_key}
-use Rattle.view_types.specs.declared.key.ViewKey.{ViewKey}
 use Rattle.view_types.specs.declared.key.ViewKey.TheVariants.{Row}
 use Rattle.view_spec.specs.Filters.{keeps}
-use Rattle.view_spec.specs.Places.{place_of_row, row_value, sort_ranks}
 use Rattle.live_list.specs.Live.{live_key}
-use Rattle.flat_live.specs.Rows.{FlatRow}
 use Rattle.flat_live.proofs.Keeps.{live_dropped}
-use Rattle.flat_live.proofs.Options.{none_there, ok_all}
+use Rattle.flat_live.proofs.Options.{none_there}
 use Rattle.flat_live.proofs.keep.keep.Goals as goal
 
 pub returns-then-not-keeps : goal.returns-then-not-keeps

@@ -7,4 +7,4 @@ use Rattle.flat_show.proofs.places.place_of_row.Given as goal
 
 abbrev pub invariant-loop-sort : goal.invariant-loop-sort
 invariant-loop-sort l =
-    l.place ≡ map (λ (s : Sort). rank s.direction (value_of (cell_in l.row s.column))) (take l.sort-index l.sort-items)
+    l.ranks.items ≡ map (λ (s : Sort). rank s.direction (value_of (cell_in l.row s.column))) (take l.sort-index l.sorts)
