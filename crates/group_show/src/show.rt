@@ -1,0 +1,62 @@
+ghost use Rattle.std.specs.Prelude.{◌≡◌, IfOk, map};
+ghost use Rattle.view_kept.specs.Steps.{side_of};
+ghost use Rattle.view_spec.specs.Views.{placed, view};
+ghost use Rattle.group_show.specs.Plans.{IsGroupedPlan};
+
+use crate::columns::header_of;
+use crate::kept::kept_tree;
+use crate::walk::{ByPlace, open_rows};
+use cell_core::{Listed, Memory, Steps};
+use flat_show::PlacedRows;
+use plan_types::Plan;
+use std::alloc::{AllocError, Global};
+use std::sync::ledger::Ledger;
+use table_core::Table;
+use view_shape::OpenState;
+use view_spec::PlacedRow;
+use view_types::Header;
+
+/// What a view with groups shows, with the places of its rows.
+#[derive(Drop)]
+pub struct PlacedGroups {
+    /// The text and type of each shown column.
+    pub header: Header,
+    /// The rows in the order in which they are shown.
+    pub rows: PlacedRows,
+}
+
+/// What a view with groups and without splits shows of the table's rows, in whatever order the table has them. `steps`
+/// counts the visits of rows and groups.
+///
+/// Want of memory is the only refusal.
+pub fn show_groups<L: Ledger>(
+    alloc: Global,
+    plan: &Plan,
+    opening: &OpenState,
+    table: &Table,
+    steps: &mut Steps<L>,
+) -> Result<PlacedGroups, Memory>
+    requires { IsGroupedPlan table.now.schema.columns plan.now }
+    ensures header { IfOk result (λ shown. shown.header ≡ (view (side_of plan.now opening.now table.now)).header) }
+    ensures rows { IfOk result (λ shown. shown.rows ≡ placed (side_of plan.now opening.now table.now)) }
+{
+    let _count = table.len();
+    let header = header_of(alloc, table.schema(), plan)?;
+    let tree = kept_tree(alloc, plan, table, steps)?;
+    let by_place = open_rows(alloc, plan, opening, header.as_slice(), &tree, steps)?;
+    let rows = collected(alloc, by_place)?;
+    Ok(PlacedGroups {
+        header,
+        rows: PlacedRows::from_listed(Listed::from_vec(rows)),
+    })
+}
+
+/// The rows at their places, as a list.
+fn collected(alloc: Global, by_place: ByPlace) -> Result<Vec<PlacedRow>, AllocError>
+    ensures { IfOk result (λ rows. rows.items ≡ map (λ e. record { place = e.0; row = e.1 }) by_place.entries) }
+{
+    by_place
+        .into_iter()
+        .map(|(place, row)| PlacedRow { place, row })
+        .collect(alloc)
+}
