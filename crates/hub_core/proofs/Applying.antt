@@ -1,7 +1,6 @@
 -- An applied batch: its answer names the views that are lost, and the others show what the rows are then.
-use Rattle.std.proofs.Common.{◌≡◌, ℕ, ◌+◌, ◌-◌, ◌<◌, ◌^◌, eqb, min, List, [], ◌∷◌, length, drop, true, false, Some, None, refl, sym, ap, ◌∙◌, subst, arith, length-drop}
+use Rattle.std.proofs.Common.{◌≡◌, ℕ, ◌+◌, ◌-◌, ◌<◌, ◌^◌, min, List, [], ◌∷◌, length, drop, Some, None, refl, sym, ap, ◌∙◌, subst, arith, length-drop}
 use Rattle.std.specs.Prelude.{is_none, slice_get, if◌then◌else◌}
-use Rattle.std.specs.List.{list_all}
 use Rattle.std.proofs.lemmas.Bool.{lt-ltb}
 use Rattle.row_batch.specs.Batches.{put_batch}
 use Rattle.row_batch.specs.Tables.{IsReordered}
@@ -11,13 +10,11 @@ use Rattle.table_core.specs.Tables.{TableData}
 use Rattle.frame_types.specs.Asks.{Ask}
 use Rattle.frame_types.specs.Asks as ask
 use Rattle.frame_types.specs.Refusals.{empty}
-use Rattle.frame_types.specs.declared.reply.Body.{Body}
 use Rattle.frame_types.specs.declared.reply.Body.TheVariants as body
 use Rattle.hub_spec.specs.Past.{PastStep}
-use Rattle.hub_spec.specs.Answers.{first_of, nothing_waits, refused_if, without_port}
+use Rattle.hub_spec.specs.Answers.{nothing_waits, refused_if, without_port}
 use Rattle.hub_spec.specs.Giving.{Gives, IsGiven, plain_in, with_step}
-use Rattle.hub_spec.specs.HeldViews.{is_live}
-use Rattle.hub_spec.specs.Histories.{answer_under, choice_of, is_ascending, may_choose}
+use Rattle.hub_spec.specs.Histories.{answer_under, choice_of, may_choose}
 use Rattle.hub_spec.specs.Ports as ports
 use Rattle.hub_spec.proofs.Counting.{accepted_le, applied_le}
 use Rattle.hub_views.specs.Keeping.{HoldsViews}

@@ -1,5 +1,5 @@
 -- Histories without a table, and the engine that is made with one.
-use Rattle.std.proofs.Common.{◌≡◌, ℕ, ◌≤◌, eqb, false, List, [], ◌∷◌, length, map, filter, fold, Option, Some, None, Ok, Err, refl, sym, ap, ◌∙◌, subst, arith}
+use Rattle.std.proofs.Common.{◌≡◌, ℕ, eqb, false, List, [], ◌∷◌, length, map, filter, fold, Option, Some, None, Ok, Err, refl, sym, ap, ◌∙◌, subst, arith}
 use Rattle.std.specs.Prelude.{is_none, not, ℤ}
 use Rattle.cell_core.specs.Schemas.{RefusesSchema, SchemaData, schema_of}
 use Rattle.cell_core.specs.declared.schema.ColumnWords.{ColumnWords}
@@ -7,8 +7,7 @@ use Rattle.cell_core.specs.declared.schema.Numbers.{Numbers}
 use Rattle.cell_core.specs.declared.schema.SchemaCause.{SchemaCause}
 use Rattle.cell_core.specs.declared.schema.SchemaRefused.{SchemaRefused}
 use Rattle.cell_core.specs.declared.schema.SchemaRefused.TheVariants as faulty
-use Rattle.row_batch.specs.Batches.{Store, empty_store}
-use Rattle.row_batch.specs.Tables.{IsReordered}
+use Rattle.row_batch.specs.Batches.{empty_store}
 use Rattle.hub_ports.specs.Ports.{no_ports}
 use Rattle.table_core.specs.Tables.{TableData}
 use Rattle.frame_types.specs.Asks.{Ask, request_view}

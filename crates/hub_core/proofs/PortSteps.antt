@@ -1,5 +1,5 @@
 -- What is given where a port is made or closed, and where a batch is queued.
-use Rattle.std.proofs.Common.{◌≡◌, ℕ, ◌+◌, ◌<◌, leb, Bool, true, false, List, [], ◌∷◌, ◌++◌, length, Option, Some, None, refl, sym, ap, ◌∙◌, subst}
+use Rattle.std.proofs.Common.{◌≡◌, ℕ, ◌+◌, ◌<◌, leb, Bool, false, List, [], ◌∷◌, ◌++◌, length, Some, None, refl, sym, ap, ◌∙◌, subst}
 use Rattle.std.specs.Prelude.{is_none}
 use Rattle.std.proofs.lemmas.List.{length-map}
 use Rattle.row_batch.specs.declared.batch.Batch.{Batch}
@@ -9,7 +9,6 @@ use Rattle.frame_types.specs.Asks.{Ask}
 use Rattle.frame_types.specs.Asks as ask
 use Rattle.frame_types.specs.Refusals.{too_many_ports}
 use Rattle.frame_types.specs.declared.reply.Body.TheVariants as body
-use Rattle.frame_types.specs.declared.reply.Refusal.{Refusal}
 use Rattle.hub_spec.specs.Past.{PastStep}
 use Rattle.hub_spec.specs.Answers.{closed_port, first_of, queued, refused_if, without_port}
 use Rattle.hub_spec.specs.Giving.{Gives, plain_in, with_step}

@@ -1,5 +1,5 @@
 -- What a client holds that folds each delta is what the view showed at its base.
-use Rattle.std.proofs.Common.{◌≡◌, ℕ, ◌+◌, eqb, Bool, true, false, ◌||◌, ◌&&◌, cond, List, [], ◌∷◌, ◌++◌, length, map, filter, fold, find, All, Option, Some, None, Result, Ok, Err, refl, sym, ap, ◌∙◌, subst, ◌⊎◌, inl, inr}
+use Rattle.std.proofs.Common.{◌≡◌, ℕ, ◌+◌, eqb, Bool, true, false, ◌||◌, ◌&&◌, cond, List, [], ◌∷◌, ◌++◌, map, filter, fold, find, All, Option, Some, None, Result, Ok, Err, refl, sym, ap, ◌∙◌, subst, ◌⊎◌, inl, inr}
 use Rattle.std.specs.Prelude.{is_some, not, unwrap_or, option_and_then}
 use Rattle.std.specs.List.{IsDistinct, list_any}
 use Rattle.std.specs.List.Sorted.{IsStrictlySortedBy}
@@ -28,13 +28,11 @@ use Rattle.delta_core.proofs.KeySetLemmas.{is_among-with_keys}
 use Rattle.plan_types.specs.declared.plan.Plan.{Plan}
 use Rattle.view_types.proofs.SameRows.{same_header_is_equal, same_header_itself}
 use Rattle.view_spec.specs.Touching.{key_of, touched_keys}
-use Rattle.view_spec.specs.Views.{by_place}
 use Rattle.view_spec.specs.declared.placed.PlacedRow.{PlacedRow}
 use Rattle.view_spec.proofs.TouchLaws.{IsPlaced, delta_restores, is_placed, rows_of, touched_agree, touched_keys-itself}
-use Rattle.view_spec.proofs.ViewLaws.{same_keys}
 use Rattle.hub_spec.specs.Past.{PastStep}
 use Rattle.hub_spec.specs.Bases.{base, base_or_none, delta_in, dirty, edit_by, fold_in, folded_after, folded_in, head_dirty, header_differs, is_base, mark_in, no_base, placed_by, placed_in, shown_by, shown_in, tells_of}
-use Rattle.hub_spec.specs.HeldViews.{HeldView, edited_at, held_view, is_view, lost_at, opened_count, opened_view, shown, side, views, with_edited, with_opened}
+use Rattle.hub_spec.specs.HeldViews.{HeldView, edited_at, held_view, is_view, lost_at, opened_view, shown, side, views, with_edited, with_opened}
 use Rattle.hub_spec.specs.Histories.{Entry, past_of, answer_to}
 use Rattle.hub_spec.specs.Laws.{DeltasFold}
 use Rattle.hub_spec.specs.Ports.{Applied, batches_applied, version_after}

@@ -1,5 +1,5 @@
 -- What is given: an answer that names no choice, and want of memory.
-use Rattle.std.proofs.Common.{◌≡◌, ℕ, eqb, leb, ltb, Bool, true, false, ◌||◌, List, [], ◌∷◌, length, Option, Some, None, Result, Ok, Err, if◌then◌else◌, refl, sym, ap, ◌∙◌}
+use Rattle.std.proofs.Common.{◌≡◌, ℕ, eqb, leb, Bool, true, false, ◌||◌, List, [], ◌∷◌, length, Option, Some, None, Result, Ok, Err, if◌then◌else◌, refl, sym, ap, ◌∙◌}
 use Rattle.std.specs.Prelude.{ℤ, is_none, is_some, not, option_map}
 use Rattle.std.specs.Result.{IsErr, IsErrAnd}
 use Rattle.cell_core.specs.RawData.{RawData}
@@ -29,7 +29,6 @@ use Rattle.hub_spec.specs.HeldViews.{HeldView, held_view, shown}
 use Rattle.hub_spec.specs.Histories.{choice_of, plenty, want, may_choose, takes_none}
 use Rattle.hub_spec.specs.Plans.{is_unbuilt, plan_asked, plan_checked, plan_read}
 use Rattle.hub_spec.specs.Ports.{schema as schema_made}
-use Rattle.hub_spec.specs.Reading.{read_batch, batch_asked}
 use Rattle.hub_spec.specs.Rows.{schema_or_none}
 
 -- an answer that names no choice is the plain one

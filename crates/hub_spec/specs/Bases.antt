@@ -1,7 +1,7 @@
 -- What a client was last told of a view, and what was touched since.
 --
 -- The base of a view is the last step that opened it, or that was answered by a delta or a resynchronisation of it.
-use Rattle.std.specs.Prelude.{ℕ, ◌==◌, List, [], ◌∷◌, Bool, true, false, not, ◌&&◌, ◌||◌, Option, Some, None, is_none, option_and_then, unwrap_or, if◌then◌else◌}
+use Rattle.std.specs.Prelude.{ℕ, ◌==◌, List, [], ◌∷◌, Bool, false, not, ◌&&◌, ◌||◌, Option, Some, None, is_none, option_and_then, unwrap_or, if◌then◌else◌}
 use Rattle.view_types.specs.declared.key.ViewKey.{ViewKey}
 use Rattle.view_types.specs.declared.shown.Shown.{Shown}
 use Rattle.delta_core.specs.Deltas.{delta_of, marked}

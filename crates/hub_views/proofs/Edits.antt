@@ -1,5 +1,5 @@
 -- A view whose plan is changed.
-use Rattle.std.proofs.Common.{◌≡◌, ℕ, suc, zero, ◌+◌, ◌-◌, ◌^◌, ◌<◌, ◌≤◌, min, eqb, Bool, true, false, ◌||◌, ◌&&◌, cond, if◌then◌else◌, List, [], ◌∷◌, length, map, find, get_or, position, set, All, Option, Some, None, Result, Ok, Err, inl, inr, refl, sym, ap, ◌∙◌, subst, arith}
+use Rattle.std.proofs.Common.{◌≡◌, ℕ, suc, zero, ◌+◌, ◌-◌, ◌^◌, ◌<◌, ◌≤◌, eqb, true, false, ◌||◌, ◌&&◌, cond, if◌then◌else◌, List, [], ◌∷◌, length, map, get_or, position, set, All, Option, Some, None, Result, Ok, Err, inl, inr, refl, sym, ap, ◌∙◌, subst, arith}
 use Rattle.std.specs.Prelude.{is_none, option_map, unwrap_or}
 use Rattle.std.specs.List.{AllZip}
 use Rattle.std.proofs.lemmas.Bool.{eqb-true}
@@ -51,9 +51,9 @@ use Rattle.hub_views.specs.declared.view.ViewState.TheVariants.{Live, Lost}
 use Rattle.hub_views.specs.declared.views.Views.{Views}
 use Rattle.hub_views.proofs.Asking.{unasked_refused}
 use Rattle.hub_views.proofs.FlatPlans.{not_wanted}
-use Rattle.hub_views.proofs.KeptViews.{and_parts, kept_still, placed_at, shown_at, with_state}
+use Rattle.hub_views.proofs.KeptViews.{and_parts, kept_still, placed_at, shown_at}
 use Rattle.hub_views.proofs.Lists.{none_placed}
-use Rattle.hub_views.proofs.Numbered.{earlier_is_other, held_changed, later_is_other, numbered_changed, numbered_still, own_found}
+use Rattle.hub_views.proofs.Numbered.{earlier_is_other, held_changed, later_is_other, numbered_changed, own_found}
 use Rattle.hub_views.proofs.Refreshes.{joined_is}
 use Rattle.hub_views.proofs.Sides.{table_keys, table_placed, table_view}
 use Rattle.hub_views.proofs.Standing.{data_asked_err}

@@ -1,7 +1,7 @@
 -- A plan that is asked for and built is flat, and its columns are there.
-use Rattle.std.proofs.Common.{◌≡◌, ℕ, suc, zero, ◌+◌, ◌<◌, ◌≤◌, Bool, true, false, ◌||◌, List, [], ◌∷◌, ◌++◌, length, map, All, Option, Some, None, Result, Ok, Err, ◌⊎◌, inl, inr, eqb, refl, sym, ap, ◌∙◌, subst, arith, if◌then◌else◌, length-append}
+use Rattle.std.proofs.Common.{◌≡◌, ℕ, suc, zero, ◌+◌, ◌<◌, ◌≤◌, Bool, true, false, ◌||◌, List, [], ◌∷◌, ◌++◌, length, map, All, Option, Some, None, Result, Ok, Err, eqb, refl, sym, ap, ◌∙◌, subst, arith, if◌then◌else◌, length-append}
 use Rattle.std.specs.Prelude.{codes, option_and_then, option_map}
-use Rattle.std.proofs.lemmas.List.Elements.{All-nil, All-cons, All-weaker}
+use Rattle.std.proofs.lemmas.List.Elements.{All-nil, All-cons}
 use Rattle.cell_core.specs.RawData.{RawData, raw_list, raw_map, no_raw_items, RawMembers, get_raw}
 use Rattle.cell_core.specs.Schemas.{SchemaData}
 use Rattle.cell_core.specs.declared.cell.CellType.{CellType}
@@ -24,7 +24,7 @@ use Rattle.plan_json.specs.declared.words.PlanPart.{PlanPart}
 use Rattle.plan_json.specs.Plans.{RawFilterData, RawPlanData}
 use Rattle.plan_json.specs.Reading.{are_members, filter_of, if_given, list_of, names_of, or_empty, plan_in, plan_of, sort_of, text_of, texts_of}
 use Rattle.plan_types.specs.Columns.{all_columns, expression_column}
-use Rattle.plan_check.specs.Columns.{aggregates_of, groups_of, known, number_at, numbers_from, numbers_of, place_named, shown_of, splits_of}
+use Rattle.plan_check.specs.Columns.{aggregates_of, groups_of, known, number_at, numbers_from, place_named, shown_of, splits_of}
 use Rattle.plan_check.specs.Expressions.{expressions_of}
 use Rattle.plain_data.specs.Results.{and_then}
 use Rattle.plan_check.specs.Faults.{found, unless}

@@ -1,9 +1,8 @@
 -- What a step leaves of the views that are kept.
-use Rattle.std.proofs.Common.{◌≡◌, ℕ, ◌+◌, ◌<◌, ◌≤◌, eqb, Bool, true, false, ◌||◌, ◌&&◌, if◌then◌else◌, List, [], ◌∷◌, ◌++◌, length, map, filter, find, set, get_or, All, Option, Some, None, inl, inr, refl, sym, ap, ◌∙◌, subst, arith, get_or-set_same, get_or-set_other}
-use Rattle.std.specs.Prelude.{is_some, is_none, not}
-use Rattle.std.proofs.lemmas.Bool.{cases_eq, eq-eqb, eqb-true, ne_eqb}
-use Rattle.std.proofs.lemmas.List.{length-set, map-append}
-use Rattle.std.proofs.lemmas.List.Elements.{All-filter, All-weaker}
+use Rattle.std.proofs.Common.{◌≡◌, ℕ, eqb, Bool, true, false, ◌||◌, ◌&&◌, if◌then◌else◌, List, [], ◌∷◌, map, filter, find, get_or, All, Option, Some, None, refl, sym, ap, ◌∙◌, arith}
+use Rattle.std.specs.Prelude.{is_none, not}
+use Rattle.std.proofs.lemmas.Bool.{eqb-true}
+use Rattle.std.proofs.lemmas.List.Elements.{All-filter}
 use Rattle.std.proofs.lemmas.Simd.{map-map}
 use Rattle.view_types.specs.declared.shown.Shown.{Shown}
 use Rattle.delta_core.specs.Deltas.{marked}
@@ -11,19 +10,17 @@ use Rattle.delta_core.specs.DirtySets.{DirtyData, dirty_of}
 use Rattle.delta_core.specs.KeySets.{with_keys}
 use Rattle.delta_core.specs.declared.delta.Mark.{Mark}
 use Rattle.view_spec.specs.Touching.{touched_keys}
-use Rattle.view_spec.specs.Views.{Side, placed, view}
+use Rattle.view_spec.specs.Views.{placed, view}
 use Rattle.view_spec.specs.declared.placed.PlacedRow.{PlacedRow}
 use Rattle.table_core.specs.Tables.{TableData}
 use Rattle.frame_types.specs.Asks.{Ask}
-use Rattle.frame_types.specs.Asks as ask
 use Rattle.frame_types.specs.declared.reply.Body.{Body}
 use Rattle.frame_types.specs.declared.reply.Body.TheVariants as body
 use Rattle.hub_spec.specs.Past.{PastStep}
-use Rattle.hub_spec.specs.Bases.{base_or_none, dirty, edit_by, head_dirty, header_differs, is_base, mark_in, placed_by, placed_in, shown_by, shown_in}
+use Rattle.hub_spec.specs.Bases.{base_or_none, dirty, head_dirty, header_differs, is_base, mark_in, placed_by, placed_in, shown_by, shown_in}
 use Rattle.hub_spec.specs.Giving.{with_step}
-use Rattle.hub_spec.specs.HeldViews.{HeldView, held_view, is_view, opened_count, opened_view, side, views}
+use Rattle.hub_spec.specs.HeldViews.{HeldView, held_view, is_view, opened_count, side, views}
 use Rattle.hub_spec.specs.Ports.{schema}
-use Rattle.hub_spec.specs.Ports as history
 use Rattle.hub_spec.proofs.Folding.{touches_nothing, touches_no_header}
 use Rattle.hub_views.specs.Keeping.{AreNumbered, HoldsViews, Keeps, kept_view, live_at, state_of}
 use Rattle.hub_views.specs.Live.{LiveData, StateData, ViewData, live_now, rebased_data, rebased_state, view_data}

@@ -1,7 +1,7 @@
 -- The views after a batch was applied, by those that are lost.
-use Rattle.std.proofs.Common.{◌≡◌, ℕ, suc, ◌+◌, ◌<◌, ◌≤◌, eqb, ltb, Bool, true, false, ◌||◌, ◌&&◌, cond, List, [], ◌∷◌, length, map, find, get_or, All, Option, Some, None, Ordering, Less, Equal, Greater, if◌then◌else◌, inl, inr, refl, sym, ap, ◌∙◌, subst, arith}
-use Rattle.std.specs.Prelude.{is_none, is_some, option_map, unwrap_or}
-use Rattle.std.specs.List.{AllZip, AllByRecursion, IsDistinct, list_all, list_any}
+use Rattle.std.proofs.Common.{◌≡◌, ℕ, suc, ◌+◌, ◌≤◌, eqb, ltb, Bool, true, false, ◌||◌, ◌&&◌, cond, List, [], ◌∷◌, length, map, get_or, All, Option, Some, None, Ordering, Less, Equal, Greater, if◌then◌else◌, inl, inr, refl, sym, ap, ◌∙◌, subst, arith}
+use Rattle.std.specs.Prelude.{is_none}
+use Rattle.std.specs.List.{AllZip, IsDistinct, list_any}
 use Rattle.std.specs.List.Sorted.{IsPermutation, IsSorted}
 use Rattle.std.specs.Ordering.{is_lt, nat_cmp, ordering_then}
 use Rattle.std.proofs.lemmas.Bool.{cases_eq, eq-eqb, eqb-false, eqb-true, le-ltb, lt-ltb, ltb-false, ne_eqb}
@@ -24,10 +24,9 @@ use Rattle.hub_spec.specs.Ports as ports
 use Rattle.hub_spec.proofs.Folding.{has_is_any}
 use Rattle.hub_spec.proofs.Numbering.{lost_name}
 use Rattle.hub_views.specs.Keeping.{AreNumbered, HoldsViews, Stands, StandsIn, kept_view, live_at, state_of}
-use Rattle.hub_views.specs.Live.{LiveData, StateData, ViewData, live_data, live_now, lost_now, state_data, view_data}
-use Rattle.hub_views.specs.Refreshing.{AreLosses, AreRefreshed, AreSteps, Becomes, IsRefreshed, applied_body, is_loss, losses}
+use Rattle.hub_views.specs.Live.{StateData, ViewData, live_data, live_now, lost_now, state_data, view_data}
+use Rattle.hub_views.specs.Refreshing.{AreLosses, AreRefreshed, AreSteps, Becomes, applied_body, is_loss, losses}
 use Rattle.hub_views.specs.Tables.{HoldsTable}
-use Rattle.hub_views.specs.declared.live.LiveView.{LiveView}
 use Rattle.hub_views.specs.declared.view.View.{View}
 use Rattle.hub_views.specs.declared.view.ViewState.{ViewState}
 use Rattle.hub_views.specs.declared.view.ViewState.TheVariants.{Live, Lost}

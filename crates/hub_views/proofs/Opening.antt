@@ -1,5 +1,5 @@
 -- A view that is opened.
-use Rattle.std.proofs.Common.{◌≡◌, ℕ, ◌+◌, ◌<◌, ◌≤◌, ◌^◌, ◌-◌, min, eqb, leb, Bool, true, false, cond, if◌then◌else◌, List, [], ◌∷◌, ◌++◌, length, map, find, set, get_or, All, Option, Some, None, Result, Ok, Err, inl, inr, refl, sym, ap, ◌∙◌, subst, arith, get_or-set_same, get_or-set_other}
+use Rattle.std.proofs.Common.{◌≡◌, ℕ, ◌+◌, ◌<◌, ◌≤◌, ◌^◌, ◌-◌, min, eqb, leb, Bool, true, false, cond, if◌then◌else◌, List, [], ◌∷◌, ◌++◌, length, map, find, set, get_or, All, Some, None, Result, Ok, inl, inr, refl, sym, ap, ◌∙◌, subst, arith, get_or-set_same, get_or-set_other}
 use Rattle.std.specs.List.{AllZip}
 use Rattle.std.proofs.lemmas.Bool.{cases_eq, eq-eqb, ne_eqb}
 use Rattle.std.proofs.lemmas.List.{length-map, length-set, map-append}
@@ -10,7 +10,7 @@ use Rattle.delta_core.specs.DirtySets.{dirty_of}
 use Rattle.delta_core.specs.declared.delta.Mark.{Mark}
 use Rattle.plan_types.specs.declared.plan.Plan.{Plan}
 use Rattle.view_spec.specs.Openings.{Opening, first_opening}
-use Rattle.view_spec.specs.Views.{Side, view}
+use Rattle.view_spec.specs.Views.{view}
 use Rattle.view_kept.specs.Steps.{side_of}
 use Rattle.flat_live.specs.Flat.{StandsFlat, flat_shown, shows_flat}
 use Rattle.flat_live.specs.declared.live.FlatLive.{FlatLive}
@@ -21,10 +21,10 @@ use Rattle.frame_types.specs.Refusals.{too_many_views}
 use Rattle.frame_types.specs.declared.reply.Body.TheVariants as body
 use Rattle.frame_types.specs.declared.reply.Refusal.{Refusal}
 use Rattle.hub_spec.specs.Past.{PastStep}
-use Rattle.hub_spec.specs.Answers.{faulty_plan, first_of, grant, opened_answer, refused_if}
+use Rattle.hub_spec.specs.Answers.{faulty_plan, first_of, opened_answer, refused_if}
 use Rattle.hub_spec.specs.Bases.{edit_by, is_base, shown_by, shown_in}
 use Rattle.hub_spec.specs.Giving.{plain_in, with_step}
-use Rattle.hub_spec.specs.HeldViews.{HeldView, held_view, is_opened_in, is_view, opened_count, opened_view, shown, side, views, with_opened}
+use Rattle.hub_spec.specs.HeldViews.{HeldView, held_view, is_opened_in, is_view, opened_count, opened_view, shown, views, with_opened}
 use Rattle.hub_spec.specs.Limits.{max_views}
 use Rattle.hub_spec.specs.Ports as history
 use Rattle.hub_spec.specs.Plans.{plan_asked}
@@ -32,14 +32,14 @@ use Rattle.hub_spec.specs.Rows.{schema_or_none}
 use Rattle.hub_spec.proofs.Counting.{times_le}
 use Rattle.hub_spec.proofs.Numbering.{are_new, found_new}
 use Rattle.hub_views.specs.Keeping.{AreNumbered, HoldsViews, IsOpened, Keeps, Stands, kept_view}
-use Rattle.hub_views.specs.Live.{LiveData, ViewData, fresh_live, live_now, view_data}
+use Rattle.hub_views.specs.Live.{ViewData, fresh_live, live_now, view_data}
 use Rattle.hub_views.specs.Tables.{HoldsTable}
 use Rattle.hub_views.specs.declared.live.LiveView.{LiveView}
 use Rattle.hub_views.specs.declared.view.View.{View}
 use Rattle.hub_views.specs.declared.view.ViewState.TheVariants.{Live}
 use Rattle.hub_views.specs.declared.views.Views.{Views}
 use Rattle.hub_views.proofs.KeptViews.{based_is, kept_still, with_state}
-use Rattle.hub_views.proofs.Lists.{found_more, map_same}
+use Rattle.hub_views.proofs.Lists.{map_same}
 use Rattle.hub_views.proofs.Numbered.{IsBefore, are_apart, numbered_push, numbered_still, numbers_given, own_found, own_is_view}
 use Rattle.hub_views.proofs.Sides.{table_keys, table_view}
 

@@ -1,5 +1,5 @@
 -- What is kept of a view once a batch more was applied, and the loop over all views.
-use Rattle.std.proofs.Common.{◌≡◌, ℕ, ◌+◌, ◌<◌, Bool, true, false, ◌||◌, cond, List, [], ◌∷◌, ◌++◌, find, get_or, take, drop, set, length, Option, Some, None, if◌then◌else◌, refl, sym, ap, ◌∙◌, arith}
+use Rattle.std.proofs.Common.{◌≡◌, ℕ, ◌+◌, ◌<◌, Bool, true, false, ◌||◌, cond, List, [], ◌∷◌, ◌++◌, get_or, take, drop, set, length, Some, if◌then◌else◌, refl, sym, ap, ◌∙◌, arith}
 use Rattle.std.specs.Prelude.{is_some}
 use Rattle.std.specs.List.Sorted.{IsStrictlySortedBy}
 use Rattle.std.proofs.lemmas.List.{append-nil, append_assoc, drop-drop, drop-set-lt, get_or-drop, length-set, take_more, take_more_set}
@@ -15,7 +15,7 @@ use Rattle.view_spec.specs.Touching.{head_touched, key_of, touched_keys}
 use Rattle.view_spec.specs.Views.{Side, placed, view}
 use Rattle.view_spec.specs.declared.placed.PlacedRow.{PlacedRow}
 use Rattle.view_spec.proofs.TouchLaws.{rows_of}
-use Rattle.view_kept.specs.Steps.{side_at, side_of, touched_between}
+use Rattle.view_kept.specs.Steps.{side_of, touched_between}
 use Rattle.flat_live.specs.Flat.{StandsFlat, shows_flat}
 use Rattle.delta_core.specs.Deltas.{marked}
 use Rattle.delta_core.specs.DirtySets.{DirtyData, dirty_of, joined}

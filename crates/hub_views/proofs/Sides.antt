@@ -1,5 +1,5 @@
 -- What a view of a table shows is what is shown of the history's rows, in whatever order the table has them.
-use Rattle.std.proofs.Common.{◌≡◌, ℕ, List, Option, Some, ap, ◌∙◌}
+use Rattle.std.proofs.Common.{◌≡◌, ℕ, List, Option, ap, ◌∙◌}
 use Rattle.std.specs.Prelude.{unwrap_or}
 use Rattle.plain_data.specs.Distinct.{AreDistinct}
 use Rattle.cell_core.specs.Schemas.{SchemaData}

@@ -1,8 +1,7 @@
 -- What is answered of the views that are kept.
-use Rattle.std.proofs.Common.{◌≡◌, ℕ, suc, zero, ◌<◌, ◌≤◌, eqb, leb, ltb, Bool, true, false, List, [], ◌∷◌, ◌++◌, length, map, filter, find, All, Option, Some, None, option_map, Ok, Err, refl, sym, ap, ◌∙◌, subst, arith, if◌then◌else◌}
+use Rattle.std.proofs.Common.{◌≡◌, ℕ, eqb, leb, ltb, Bool, true, false, List, [], ◌∷◌, length, map, filter, find, Option, Some, None, option_map, Ok, Err, refl, sym, ap, ◌∙◌, if◌then◌else◌}
 use Rattle.std.specs.Prelude.{not, unwrap_or}
-use Rattle.std.proofs.lemmas.List.{append-nil, length-map}
-use Rattle.std.proofs.lemmas.List.Elements.{All-nil, All-push}
+use Rattle.std.proofs.lemmas.List.{length-map}
 use Rattle.cell_core.specs.RawData.{RawData}
 use Rattle.cell_core.specs.Schemas.{SchemaData}
 use Rattle.plan_types.specs.declared.plan.Plan.{Plan}
