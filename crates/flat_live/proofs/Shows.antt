@@ -63,3 +63,6 @@ rows_shown header xs differ = record {
       (shown_distinct (map (as_placed header) xs) (IsDistinct-map (same_by live_key) same_keys (as_placed header) (λ x y apart. apart) xs differ));
   marked = all_unmarked header xs;
 }
+
+pub placed_shown : (header : List HeaderColumn) (xs : List FlatRow) → IsDistinct (same_by live_key) xs → AreShownRows (map (λ (p : PlacedRow). p.row) (map (as_placed header) xs))
+placed_shown header xs differ = subst (λ (rs : List ShownRow). AreShownRows rs) (sym (rows_through header xs)) (rows_shown header xs differ)

@@ -16,6 +16,7 @@ mod changes;
 mod comparing;
 mod keep;
 mod live;
+mod places;
 mod settle;
 mod showing;
 

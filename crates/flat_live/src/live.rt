@@ -1,12 +1,13 @@
 ghost use Rattle.std.specs.Prelude.{◌≡◌, ◌-◌, IfOk, drop, map, take};
-ghost use Rattle.flat_live.specs.Rows.{shown_row};
+ghost use Rattle.flat_live.specs.Rows.{as_placed, shown_row};
 
 use crate::building::build;
 use crate::changes::settle_all;
 use crate::comparing::{compare_new, compare_old};
-use crate::showing::show_row;
+use crate::showing::{place_row, show_row};
 use cell_core::{Copies, Listed, Memory, Row, Steps};
 use delta_core::{ShownNow, Touched};
+use flat_show::PlacedRows;
 use live_list::LiveList;
 use plan_types::Plan;
 use row_batch::RowChange;
@@ -15,6 +16,7 @@ use std::sync::ledger::Ledger;
 use table_core::Table;
 use view_kept::KeptView;
 use view_shape::OpenState;
+use view_spec::PlacedRow;
 use view_types::{Header, HeaderColumn, ShownRow, ShownRows, ViewKey, same_header};
 
 /// A flat view without splits that is kept from step to step by the changes.
@@ -53,12 +55,22 @@ impl ShownNow for FlatLive {
 impl FlatLive {
     ghost use Rattle.delta_core.specs.Rows.{position_of};
     ghost use Rattle.flat_live.specs.Flat.{flat_shown};
+    ghost use Rattle.flat_live.specs.Rows.{as_placed};
 
     /// The position of the row with that key, counted from 0, and none exactly where no row has it.
     pub fn place_of(&self, key: &ViewKey) -> Option<usize>
         ensures { result ≡ position_of key.now (flat_shown self.now).rows }
     {
         self.position(key)
+    }
+
+    /// The rows at their places, in the order in which they are shown. Want of memory is the only refusal.
+    pub fn placed_rows(&self, alloc: Global) -> Result<PlacedRows, Memory>
+        ensures { IfOk result (λ rows. rows ≡ map (as_placed self.now.header) self.now.rows) }
+    {
+        let _count = self.rows.len();
+        let rows = all_placed(alloc, self.header.as_slice(), &self.rows)?;
+        Ok(PlacedRows::from_listed(Listed::from_vec(rows)))
     }
 
     /// The rows at positions from `from` up to and without `to`, as far as there are any.
@@ -157,6 +169,22 @@ fn rows_between(
     let mut copies = Vec::with_capacity(alloc, part.len())?;
     for entry in &part {
         copies.push(show_row(alloc, header, *entry)?)?;
+    }
+    Ok(copies)
+}
+
+/// All rows at their places, as they are shown.
+fn all_placed(
+    alloc: Global,
+    header: &[HeaderColumn],
+    rows: &LiveList<Row>,
+) -> Result<Vec<PlacedRow>, Memory>
+    ensures { IfOk result (λ copies. copies.items ≡ map (as_placed header.now) rows.now) }
+{
+    let all = rows.window(0, rows.len())?;
+    let mut copies = Vec::with_capacity(alloc, all.len())?;
+    for entry in &all {
+        copies.push(place_row(alloc, header, *entry)?)?;
     }
     Ok(copies)
 }

@@ -5,9 +5,11 @@ ghost use Rattle.view_spec.specs.Cells.{with_value};
 ghost use Rattle.view_spec.specs.Touching.{same_found, same_placed};
 ghost use Rattle.flat_live.specs.Rows.{as_placed, cells_under, shown_row};
 
+use crate::places::place_copied;
 use cell_core::{Cell, Copies, Memory, Row, Text};
 use live_list::{LiveRow, RowPlace};
 use std::alloc::Global;
+use view_spec::PlacedRow;
 use view_types::{HeaderColumn, ShownCells, ShownRow};
 
 /// What a live flat view keeps of a shown row.
@@ -26,6 +28,20 @@ pub(crate) fn show_row(
         key: row.key.copy(alloc)?,
         mark: false,
         cells: show_cells(alloc, header, row.value.as_slice())?,
+    })
+}
+
+/// A kept row as it is shown, at its place.
+pub(crate) fn place_row(
+    alloc: Global,
+    header: &[HeaderColumn],
+    entry: &FlatEntry,
+) -> Result<PlacedRow, Memory>
+    ensures { IfOk result (λ row. row ≡ as_placed header.now entry.now) }
+{
+    Ok(PlacedRow {
+        place: place_copied(alloc, entry.0.as_place())?,
+        row: show_row(alloc, header, entry)?,
     })
 }
 

@@ -2,20 +2,21 @@ ghost use Rattle.std.specs.Prelude.{◌≡◌, IfOk, map};
 ghost use Rattle.view_types.specs.Rows.{AreShownRows};
 ghost use Rattle.key_map.specs.Keyed.{GivesPositions};
 ghost use Rattle.view_kept.specs.Steps.{side_of};
-ghost use Rattle.view_spec.specs.Openings.{Opening};
 ghost use Rattle.view_spec.specs.Touching.{key_of};
 ghost use Rattle.view_spec.specs.Views.{placed, view};
 ghost use Rattle.view_spec.specs.declared.placed.PlacedRow.{PlacedRow as PlacedData};
-ghost use Rattle.flat_show.specs.Plans.{IsFlatPlan};
+ghost use Rattle.plain_kept.specs.Plans.{IsUnsplitPlan};
 
 use cell_core::{Copies, Memory, Steps};
 use flat_show::{PlacedRows, show_placed};
+use group_show::show_groups;
 use key_map::KeyMap;
 use plan_types::Plan;
 use std::alloc::Global;
 use std::marker::Model;
 use std::sync::ledger::Ledger;
 use table_core::Table;
+use view_shape::OpenState;
 use view_spec::PlacedRow;
 use view_types::{Header, ViewKey};
 
@@ -89,7 +90,7 @@ fn positions_of(alloc: Global, rows: &[PlacedRow]) -> Result<KeyMap<usize>, Memo
     Ok(positions)
 }
 
-/// What a flat view shows, with the places of its rows and the positions of its keys.
+/// What a view shows, with the places of its rows and the positions of its keys.
 #[derive(Drop)]
 pub struct KeyedView {
     /// The text and type of each shown column.
@@ -98,23 +99,35 @@ pub struct KeyedView {
     pub rows: KeyedRows,
 }
 
-/// What a flat view without splits shows of the table's rows, asked by key. `steps` counts the visits of rows.
+/// What a view without splits shows of the table's rows, asked by key. A flat plan shows rows, and one with groups the
+/// groups that the opening shows. `steps` counts the visits of rows and groups.
 ///
 /// Want of memory is the only refusal.
 pub fn show_keyed<L: Ledger>(
     alloc: Global,
     plan: &Plan,
+    opening: &OpenState,
     table: &Table,
     steps: &mut Steps<L>,
 ) -> Result<KeyedView, Memory>
-    requires { IsFlatPlan table.now.schema.columns plan.now }
-    ensures header { (opening : Opening) → IfOk result (λ shown. shown.header ≡ (view (side_of plan.now opening table.now)).header) }
-    ensures rows { (opening : Opening) → IfOk result (λ shown. shown.rows ≡ placed (side_of plan.now opening table.now)) }
+    requires { IsUnsplitPlan table.now.schema.columns plan.now }
+    ensures header { IfOk result (λ shown. shown.header ≡ (view (side_of plan.now opening.now table.now)).header) }
+    ensures rows { IfOk result (λ shown. shown.rows ≡ placed (side_of plan.now opening.now table.now)) }
 {
-    let shown = show_placed(alloc, plan, table, steps)?;
-    let rows = KeyedRows::of(alloc, shown.rows)?;
-    Ok(KeyedView {
-        header: shown.header,
-        rows,
-    })
+    if plan.group_by.as_slice().is_empty() {
+        let shown = show_placed(alloc, plan, table, steps)?;
+        keyed(alloc, shown.header, shown.rows)
+    } else {
+        let shown = show_groups(alloc, plan, opening, table, steps)?;
+        keyed(alloc, shown.header, shown.rows)
+    }
+}
+
+/// The header and the rows, asked by key. Want of memory is the only refusal.
+fn keyed(alloc: Global, header: Header, rows: PlacedRows) -> Result<KeyedView, Memory>
+    ensures header { IfOk result (λ shown. shown.header ≡ header) }
+    ensures rows { IfOk result (λ shown. shown.rows ≡ rows) }
+{
+    let rows = KeyedRows::of(alloc, rows)?;
+    Ok(KeyedView { header, rows })
 }

@@ -1,10 +1,18 @@
+ghost use Rattle.std.specs.Prelude.{◌≡◌, ◌-◌, IfOk, drop, map, take};
+ghost use Rattle.view_kept.specs.Steps.{side_of};
+ghost use Rattle.view_spec.specs.declared.placed.PlacedRow.{PlacedRow as PlacedData};
+ghost use Rattle.plain_kept.specs.Plain.{StandsPlain};
+ghost use Rattle.plain_kept.specs.Plans.{IsUnsplitPlan};
+
+use crate::columns::{columns_copied, same_columns};
 use crate::keyed::{KeyedView, show_keyed};
 use crate::touching::touched;
-use cell_core::{Copies, Listed, Memory, Steps};
+use cell_core::{Column, Copies, Listed, Memory, Steps};
 use delta_core::{ShownNow, Touched};
 use plan_types::Plan;
 use row_batch::RowChange;
 use std::alloc::Global;
+use std::marker::Model;
 use std::sync::ledger::Ledger;
 use table_core::Table;
 use view_kept::KeptView;
@@ -12,16 +20,79 @@ use view_shape::OpenState;
 use view_spec::PlacedRow;
 use view_types::{Header, ShownRow, ShownRows, ViewKey};
 
-/// A flat view without splits that is computed anew at each step.
+/// A view without splits, flat or with groups, that is computed anew at each step.
+///
+/// It has a copy of the table's columns, since its plan fits those.
 #[derive(Drop)]
-pub struct PlainFlat {
-    /// The plan that it is a view by.
-    pub plan: Plan,
-    /// What it shows.
-    pub shown: KeyedView,
+pub struct PlainView {
+    columns: Vec<Column>,
+    plan: Plan,
+    opening: OpenState,
+    shown: KeyedView,
 }
 
-impl ShownNow for PlainFlat {
+impl Model for PlainView {
+    ghost use Rattle.std.specs.Coded.{codes};
+    ghost use Rattle.plan_types.specs.contracts.tree.TreeNode as node;
+    ghost use Rattle.plain_kept.specs.Plain.{PlainData};
+    ghost use Rattle.plain_kept.specs.Plans.{IsUnsplitPlan};
+
+    ghost Value = { PlainData };
+
+    ghost coded = { Prim.hlevel (codes, node.the_row.coded) };
+
+    ghost view = { λ v. record { columns = v.columns.items; plan = v.plan; opening = v.opening; shown = v.shown } };
+
+    ghost invariant = { λ v. IsUnsplitPlan v.columns.items v.plan };
+}
+
+impl PlainView {
+    ghost use Rattle.std.specs.Prelude.{◌≡◌, [], false, IfOk, OnOk};
+    ghost use Rattle.view_kept.specs.Steps.{IsOfTable, side_of, touched_between};
+    ghost use Rattle.view_spec.specs.Touching.{head_touched};
+    ghost use Rattle.view_spec.specs.Views.{Side};
+    ghost use Rattle.plain_kept.specs.Plain.{StandsPlain};
+
+    /// The plan that it is a view by.
+    pub fn plan(&self) -> &Plan
+        ensures { result.now ≡ self.now.plan }
+    {
+        &self.plan
+    }
+
+    /// What it shows.
+    pub fn keyed(&self) -> &KeyedView
+        ensures { result.now ≡ self.now.shown }
+    {
+        &self.shown
+    }
+
+    /// The view of the same rows by the same plan and another opening, and what that touches. This view stays as it is.
+    ///
+    /// Want of memory is the only refusal.
+    pub fn reopened<L: Ledger>(
+        &self,
+        alloc: Global,
+        opening: &OpenState,
+        table: &Table,
+        touched_now: &mut Touched,
+        steps: &mut Steps<L>,
+    ) -> Result<PlainView, Memory>
+        requires empty { touched_now.old.keys ≡ [] }
+        requires clear { touched_now.old.header ≡ false }
+        ensures stands { (s : Side) → StandsPlain self.now s → IsOfTable s table.now → IfOk result (λ other. StandsPlain other (side_of s.plan opening.now table.now)) }
+        ensures keys { (s : Side) → StandsPlain self.now s → IsOfTable s table.now → OnOk result (touched_now.new.keys ≡ touched_between s (side_of s.plan opening.now table.now)) }
+        ensures header { (s : Side) → StandsPlain self.now s → IsOfTable s table.now → OnOk result (touched_now.new.header ≡ head_touched s (side_of s.plan opening.now table.now)) }
+    {
+        if !same_columns(self.columns.as_slice(), table.schema().columns()) {
+            return Err(Memory);
+        }
+        let plan = self.plan.copy(alloc)?;
+        self.reshape(alloc, plan, opening, table, touched_now, steps)
+    }
+}
+
+impl ShownNow for PlainView {
     ghost use Rattle.plain_kept.specs.Plain.{shown_of};
 
     ghost shown = { shown_of };
@@ -43,7 +114,7 @@ impl ShownNow for PlainFlat {
     }
 }
 
-impl KeptView for PlainFlat {
+impl KeptView for PlainView {
     ghost use Rattle.plain_kept.specs.Plain.{StandsPlain, counts_plain, fits_plain, shows_plain};
 
     ghost stands_for = { StandsPlain };
@@ -61,6 +132,8 @@ impl KeptView for PlainFlat {
         Ok(ShownRows::from_listed(Listed::from_vec(rows)))
     }
 
+    /// A table keeps its columns, so they are the view's. That is tested and no demand on the caller: a table with other
+    /// columns, of which the view is none, is answered as want of memory.
     fn apply<L: Ledger>(
         &mut self,
         alloc: Global,
@@ -69,10 +142,10 @@ impl KeptView for PlainFlat {
         touched_now: &mut Touched,
         steps: &mut Steps<L>,
     ) -> Result<(), Memory> {
-        if !is_flat_plan(&self.plan, table) {
+        if !same_columns(self.columns.as_slice(), table.schema().columns()) {
             return Err(Memory);
         }
-        let now = show_keyed(alloc, &self.plan, table, steps)?;
+        let now = show_keyed(alloc, &self.plan, &self.opening, table, steps)?;
         *touched_now = touched(alloc, &self.shown, &now)?;
         self.shown = now;
         Ok(())
@@ -82,37 +155,40 @@ impl KeptView for PlainFlat {
         &self,
         alloc: Global,
         plan: Plan,
-        _opening: &OpenState,
+        opening: &OpenState,
         table: &Table,
         touched_now: &mut Touched,
         steps: &mut Steps<L>,
-    ) -> Result<PlainFlat, Memory> {
-        let shown = show_keyed(alloc, &plan, table, steps)?;
-        *touched_now = touched(alloc, &self.shown, &shown)?;
-        Ok(PlainFlat { plan, shown })
+    ) -> Result<PlainView, Memory> {
+        let other = build(alloc, plan, opening, table, steps)?;
+        *touched_now = touched(alloc, &self.shown, other.keyed())?;
+        Ok(other)
     }
 
     ghost shows = { shows_plain };
 }
 
-ghost use Rattle.std.specs.Prelude.{◌≡◌, ◌-◌, ◌<◌, ◌↔◌, All, IfOk, IsTrue, drop, map, take};
-ghost use Rattle.flat_show.specs.Plans.{IsFlatPlan};
-ghost use Rattle.view_spec.specs.declared.placed.PlacedRow.{PlacedRow as PlacedData};
-
-/// Whether a plan is one of a flat view without splits over a table's columns.
-fn is_flat_plan(plan: &Plan, table: &Table) -> bool
-    ensures { IsTrue result ↔ IsFlatPlan table.now.schema.columns plan.now }
+/// The view of the table's rows by a plan without splits and an opening. `steps` counts the visits of rows and groups.
+///
+/// Want of memory is the only refusal.
+pub fn build<L: Ledger>(
+    alloc: Global,
+    plan: Plan,
+    opening: &OpenState,
+    table: &Table,
+    steps: &mut Steps<L>,
+) -> Result<PlainView, Memory>
+    requires { IsUnsplitPlan table.now.schema.columns plan }
+    ensures { IfOk result (λ view. StandsPlain view (side_of plan opening.now table.now)) }
 {
-    let count = table.schema().columns().len() + plan.expressions.as_slice().len();
-    plan.group_by.as_slice().is_empty()
-        && plan.split_by.as_slice().is_empty()
-        && are_below(count, plan.columns.as_slice())
-}
-
-fn are_below(count: usize, numbers: &[usize]) -> bool
-    ensures { IsTrue result ↔ All (λ n. n < count) numbers.now }
-{
-    numbers.iter().all(|number| *number < count)
+    let columns = columns_copied(alloc, table.schema().columns())?;
+    let shown = show_keyed(alloc, &plan, opening, table, steps)?;
+    Ok(PlainView {
+        columns,
+        plan,
+        opening: opening.copy(alloc)?,
+        shown,
+    })
 }
 
 /// Copies of the rows at positions from `from` up to and without `to`.

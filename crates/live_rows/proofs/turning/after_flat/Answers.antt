@@ -1,0 +1,10 @@
+use Rattle.std.proofs.Common.{ap, ◌∙◌}
+use Rattle.view_kept.specs.Steps.{side_of}
+use Rattle.plain_kept.specs.declared.keyed.KeyedView.{KeyedView}
+use Rattle.plain_kept.proofs.PlainLaws.{keys_between}
+use Rattle.live_rows.proofs.turning.after_flat.Goals as goal
+
+pub returns-clause-keys : goal.returns-clause-keys
+returns-clause-keys g c = λ s stood of.
+    keys_between s (side_of c.args.plan c.args.opening.now c.args.table.now) c.in_ok-was.was'.rows c.keyed.result.now.rows c.in_ok-touched_now.field-0.keys
+    (c.in_ok-was.ensures.rows ∙ stood.rows) (ap (λ (k : KeyedView). k.rows) c.keyed.ensures ∙ c.in_ok-other-2.ensures.rows) c.in_ok-touched_now.ensures.keys
