@@ -4,6 +4,7 @@ use Rattle.std.specs.List.{list_any}
 use Rattle.std.specs.Str.{bytes_eq}
 use Rattle.serde_json.specs.Data.{Data, boolean, array, Items, no_items, item, Members, no_members, member}
 use Rattle.serde_json.specs.Find.{get_member, as_str, as_array, as_object}
+use Rattle.cell_core.specs.declared.cell.Cell.{Cell}
 use Rattle.cell_core.specs.declared.schema.ColumnWords.{ColumnWords}
 use Rattle.frame_types.specs.Asks.{Ask}
 use Rattle.frame_types.specs.Asks as ask
@@ -127,16 +128,19 @@ take_of ms = option_and_then (λ v. option_map (λ w. ask.take v w) (wait_of (ge
 abbrev pub edit_of : Members → Option Ask
 edit_of ms = option_and_then (λ v. option_map (λ p. ask.edit_view v (raw_data p)) (get_member (codes "plan") ms)) (view_of ms)
 
--- a form that isn't built yet, once its members are of their forms
-abbrev pub unbuilt : {X : Type 0} → Option X → Option Ask
-unbuilt members = option_map (λ m. ask.unread cause.Unbuilt) members
-
 abbrev pub depth_of : Members → Option Ask
-depth_of ms = unbuilt (option_and_then (λ v. option_and_then (up_to max_depth) (natural (codes "depth") ms)) (view_of ms))
+depth_of ms =
+    option_and_then (λ v. option_map (λ d. ask.depth v d) (option_and_then (up_to max_depth) (natural (codes "depth") ms))) (view_of ms)
 
--- `expand` and `collapse`
-abbrev pub opening_of : Members → Option Ask
-opening_of ms = unbuilt (option_and_then (λ v. option_and_then path_of (get_member (codes "path") ms)) (view_of ms))
+-- a group's
+abbrev pub path : Members → Option (List Cell)
+path ms = option_and_then path_of (get_member (codes "path") ms)
+
+abbrev pub expand_of : Members → Option Ask
+expand_of ms = option_and_then (λ v. option_map (λ p. ask.expand v p) (path ms)) (view_of ms)
+
+abbrev pub collapse_of : Members → Option Ask
+collapse_of ms = option_and_then (λ v. option_map (λ p. ask.collapse v p) (path ms)) (view_of ms)
 
 -- the request of an object whose members all belong to its form
 abbrev pub ask_of : Op → Members → Option Ask
@@ -154,8 +158,8 @@ ask_of op.Apply ms = option_map ask.apply (port_of ms)
 ask_of op.Open ms = open_of ms
 ask_of op.Edit ms = edit_of ms
 ask_of op.Depth ms = depth_of ms
-ask_of op.Expand ms = opening_of ms
-ask_of op.Collapse ms = opening_of ms
+ask_of op.Expand ms = expand_of ms
+ask_of op.Collapse ms = collapse_of ms
 ask_of op.Take ms = take_of ms
 ask_of op.Rows ms = rows_of ms
 ask_of op.Close ms = option_map ask.close (view_of ms)
@@ -215,18 +219,14 @@ all_belong scripted o (member k d ms) = belongs scripted o k && all_belong scrip
 
 -- ---- the whole
 
--- what can't be read counts in session 0, and so does a form that isn't built
+-- what can't be read counts in session 0
 abbrev pub unread_by : FrameCause → ℕ × Ask
 unread_by why = (0, ask.unread why)
-
-abbrev pub asked_in : ℕ → Ask → ℕ × Ask
-asked_in session (ask.unread why) = unread_by why
-asked_in session request = (session, request)
 
 abbrev pub asked : Option ℕ → Option Ask → ℕ × Ask
 asked None request = unread_by cause.Member
 asked (Some session) None = unread_by cause.Member
-asked (Some session) (Some request) = asked_in session request
+asked (Some session) (Some request) = (session, request)
 
 abbrev pub of_op : Bool → Members → Option Op → ℕ × Ask
 of_op scripted ms None = unread_by cause.Op

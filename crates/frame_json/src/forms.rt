@@ -1,7 +1,7 @@
 ghost use Rattle.std.specs.Prelude.{◌≡◌, IfOk, option_map};
 ghost use Rattle.serde_json.specs.View.{view, members_view};
 ghost use Rattle.frame_types.specs.Asks.{request_view};
-ghost use Rattle.frame_json.specs.Requests.{table_of, port_of, view_of, update_of, replace_of, csv_of, list_of, remove_of, open_of, edit_of, depth_of, opening_of, take_of, rows_of, ask_of};
+ghost use Rattle.frame_json.specs.Requests.{table_of, port_of, view_of, update_of, replace_of, csv_of, list_of, remove_of, open_of, edit_of, depth_of, path, expand_of, collapse_of, take_of, rows_of, ask_of};
 
 use crate::member::{
     Members, bound_at, columns_at, member, natural_at, taken, wait_at, whole_if_given, words_at,
@@ -9,13 +9,13 @@ use crate::member::{
 };
 use crate::op::Op;
 use crate::part::path_of;
-use cell_core::{Memory, Text};
-use frame_types::{FrameCause, MAX_DEPTH, Request};
+use cell_core::{Memory, Path, Text};
+use frame_types::{MAX_DEPTH, Request};
 use json_rows::raw_of;
 use serde_json::Value;
 use std::alloc::Global;
 
-/// The request of a form, if its members are of their forms. A form that isn't built yet is unread.
+/// The request of a form, if its members are of their forms.
 pub(crate) fn requested(alloc: Global, op: Op, members: Members) -> Result<Option<Request>, Memory>
     ensures { IfOk result (λ found. option_map request_view found
         ≡ ask_of op (members_view members.entries)) }
@@ -35,7 +35,8 @@ pub(crate) fn requested(alloc: Global, op: Op, members: Members) -> Result<Optio
         Op::Open => open(alloc, members),
         Op::Edit => edit(alloc, members),
         Op::Depth => Ok(depth(&members)),
-        Op::Expand | Op::Collapse => opening(alloc, &members),
+        Op::Expand => expand(alloc, &members),
+        Op::Collapse => collapse(alloc, &members),
         Op::Take => Ok(take(&members)),
         Op::Rows => Ok(rows(&members)),
         Op::Close => Ok(view_at(&members).map(|view| Request::Close { view })),
@@ -188,22 +189,46 @@ fn edit(alloc: Global, members: Members) -> Result<Option<Request>, Memory>
 fn depth(members: &Members) -> Option<Request>
     ensures { option_map request_view result ≡ depth_of (members_view members.now.entries) }
 {
-    let _view = view_at(members)?;
+    let view = view_at(members)?;
     let depth = natural_at(members, "depth")?;
     if depth > MAX_DEPTH {
         return None;
     }
-    Some(Request::Unread(FrameCause::Unbuilt))
+    Some(Request::Depth { view, depth })
 }
 
-/// `expand` and `collapse`.
-fn opening(alloc: Global, members: &Members) -> Result<Option<Request>, Memory>
-    ensures { IfOk result (λ found. option_map request_view found
-        ≡ opening_of (members_view members.now.entries)) }
+/// The path of a group.
+fn path_at(alloc: Global, members: &Members) -> Result<Option<Path>, Memory>
+    ensures { IfOk result (λ found. found ≡ path (members_view members.now.entries)) }
 {
-    let (Some(_view), Some(path)) = (view_at(members), member(members, "path")) else {
+    match member(members, "path") {
+        Some(value) => path_of(alloc, value),
+        None => Ok(None),
+    }
+}
+
+fn expand(alloc: Global, members: &Members) -> Result<Option<Request>, Memory>
+    ensures { IfOk result (λ found. option_map request_view found
+        ≡ expand_of (members_view members.now.entries)) }
+{
+    let Some(view) = view_at(members) else {
         return Ok(None);
     };
-    let path = path_of(alloc, path)?;
-    Ok(path.map(|_path| Request::Unread(FrameCause::Unbuilt)))
+    let Some(path) = path_at(alloc, members)? else {
+        return Ok(None);
+    };
+    Ok(Some(Request::Expand { view, path }))
+}
+
+fn collapse(alloc: Global, members: &Members) -> Result<Option<Request>, Memory>
+    ensures { IfOk result (λ found. option_map request_view found
+        ≡ collapse_of (members_view members.now.entries)) }
+{
+    let Some(view) = view_at(members) else {
+        return Ok(None);
+    };
+    let Some(path) = path_at(alloc, members)? else {
+        return Ok(None);
+    };
+    Ok(Some(Request::Collapse { view, path }))
 }

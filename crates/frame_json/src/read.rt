@@ -2,7 +2,7 @@ ghost use Rattle.std.specs.Prelude.{◌≡◌, ◌<◌, IfOk, IfSome, option_map
 ghost use Rattle.serde_json.specs.Find.{as_object};
 ghost use Rattle.serde_json.specs.View.{view, members_view};
 ghost use Rattle.frame_types.specs.Asks.{request_view, asked_view};
-ghost use Rattle.frame_json.specs.Requests.{all_belong, unread_by, asked_in, asked, of_op, of_object, request_of};
+ghost use Rattle.frame_json.specs.Requests.{all_belong, unread_by, asked, of_op, of_object, request_of};
 
 use crate::forms::requested;
 use crate::member::{Members, session_at, words_at};
@@ -35,25 +35,13 @@ fn unread(cause: FrameCause) -> Asked
     }
 }
 
-/// The request as its session's. What isn't read is session 0's.
-fn asked_in(session: u32, request: Request) -> Asked
-    requires { session < CLIENT_SESSIONS }
-    ensures asked { asked_view result ≡ asked_in session (request_view request) }
-    ensures session { result.session < CLIENT_SESSIONS }
-{
-    match request {
-        Request::Unread(cause) => unread(cause),
-        request => Asked { session, request },
-    }
-}
-
 fn asked(session: Option<u32>, request: Option<Request>) -> Asked
     requires { IfSome session (λ s. s < CLIENT_SESSIONS) }
     ensures asked { asked_view result ≡ asked session (option_map request_view request) }
     ensures session { result.session < CLIENT_SESSIONS }
 {
     match (session, request) {
-        (Some(session), Some(request)) => asked_in(session, request),
+        (Some(session), Some(request)) => Asked { session, request },
         _ => unread(FrameCause::Member),
     }
 }

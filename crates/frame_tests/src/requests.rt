@@ -19,6 +19,9 @@ fn form(request: &Request) -> &'static str {
         Request::Apply { .. } => "apply",
         Request::Open { .. } => "open",
         Request::Edit { .. } => "edit",
+        Request::Depth { .. } => "depth",
+        Request::Expand { .. } => "expand",
+        Request::Collapse { .. } => "collapse",
         Request::Take { wait: false, .. } => "take",
         Request::Take { wait: true, .. } => "take, waiting",
         Request::Rows { .. } => "rows",
@@ -34,7 +37,6 @@ fn cause_name(cause: FrameCause) -> &'static str {
         FrameCause::Object => "object",
         FrameCause::Op => "no op",
         FrameCause::Member => "member",
-        FrameCause::Unbuilt => "unbuilt",
     }
 }
 
@@ -46,7 +48,7 @@ fn read(alloc: Global, line: &[u8], scripted: bool) -> Result<(&'static str, u32
 
 #[test]
 fn lines_are_read(rt: HostRuntime) -> Result<(), Fail> {
-    let lines: [(&[u8], &str); 37] = [
+    let lines: [(&[u8], &str); 48] = [
         (
             b"{\"op\":\"table\",\"columns\":[[\"k\",\"integer\"],[\"v\",\"date\"]],\"index\":\"k\"}",
             "table",
@@ -88,15 +90,38 @@ fn lines_are_read(rt: HostRuntime) -> Result<(), Fail> {
         (b"{\"op\":\"take\",\"view\":0,\"wait\":1}", "member"),
         (b"{\"op\":\"take\",\"view\":0,\"to\":1}", "member"),
         (b"{\"op\":\"take\",\"wait\":true}", "member"),
+        (b"{\"op\":\"depth\",\"view\":0,\"depth\":0}", "depth"),
         (b"{\"op\":\"depth\",\"view\":0,\"depth\":9}", "member"),
+        (b"{\"op\":\"depth\",\"depth\":0}", "member"),
         (
-            b"{\"op\":\"expand\",\"view\":0,\"path\":[null,true,-1,\"x\",[\"d\",\"2024-02-29\"],[\"t\",0]]}",
-            "unbuilt",
+            b"{\"op\":\"expand\",\"view\":0,\"path\":[null,true,-9007199254740991,\"x\",[\"d\",\"2024-02-29\"],[\"t\",0],0,1]}",
+            "expand",
         ),
+        (b"{\"op\":\"collapse\",\"view\":0,\"path\":[]}", "collapse"),
+        (b"{\"op\":\"collapse\",\"view\":0}", "member"),
+        (b"{\"op\":\"expand\",\"view\":0,\"path\":null}", "member"),
+        (
+            b"{\"op\":\"expand\",\"view\":0,\"path\":[0,1,2,3,4,5,6,7,8]}",
+            "member",
+        ),
+        (
+            b"{\"op\":\"expand\",\"view\":0,\"path\":[9007199254740992]}",
+            "member",
+        ),
+        (b"{\"op\":\"expand\",\"view\":0,\"path\":[0.5]}", "member"),
         (
             b"{\"op\":\"expand\",\"view\":0,\"path\":[[\"d\",\"2023-02-29\"]]}",
             "member",
         ),
+        (
+            b"{\"op\":\"expand\",\"view\":0,\"path\":[[\"t\",253402300800000]]}",
+            "member",
+        ),
+        (
+            b"{\"op\":\"expand\",\"view\":0,\"path\":[[\"t\",0,0]]}",
+            "member",
+        ),
+        (b"{\"op\":\"expand\",\"view\":0,\"path\":[{}]}", "member"),
         (b"{\"op\":\"port\"", "json"),
         (b"\"\xff\"", "json"),
     ];
@@ -114,7 +139,7 @@ fn a_script_names_sessions(rt: HostRuntime) -> Result<(), Fail> {
     assert_eq!(rt; read(alloc, last, false)?, ("member", 0));
     let many = b"{\"op\":\"port\",\"session\":64}";
     assert_eq!(rt; read(alloc, many, true)?, ("member", 0));
-    let unbuilt = b"{\"op\":\"depth\",\"session\":3,\"view\":0,\"depth\":8}";
-    assert_eq!(rt; read(alloc, unbuilt, true)?, ("unbuilt", 0));
+    let deepest = b"{\"op\":\"depth\",\"session\":3,\"view\":0,\"depth\":8}";
+    assert_eq!(rt; read(alloc, deepest, true)?, ("depth", 3));
     Ok(())
 }

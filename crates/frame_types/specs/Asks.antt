@@ -2,6 +2,7 @@
 use Rattle.std.specs.Prelude.{ℕ, ℤ, Bool, List, Option}
 use Rattle.cell_core.specs.RawData.{RawData}
 use Rattle.cell_core.specs.RawViews.{raw_view}
+use Rattle.cell_core.specs.declared.cell.Cell.{Cell}
 use Rattle.cell_core.specs.declared.schema.ColumnWords.{ColumnWords}
 use Rattle.frame_types.specs.declared.request.FrameCause.{FrameCause}
 use Rattle.frame_types.specs.declared.request.Request.{Request}
@@ -22,6 +23,9 @@ pub data Ask : Type 0 where
   apply : ℕ → Ask
   open_view : RawData → ℕ → Ask
   edit_view : ℕ → RawData → Ask
+  depth : ℕ → ℕ → Ask
+  expand : ℕ → List Cell → Ask
+  collapse : ℕ → List Cell → Ask
   take : ℕ → Bool → Ask
   rows : ℕ → ℕ → ℕ → Ask
   close : ℕ → Ask
@@ -41,6 +45,9 @@ request_view (request.ClosePort p) = close_port p
 request_view (request.Apply p) = apply p
 request_view (request.Open plan bound) = open_view (raw_view plan) bound
 request_view (request.Edit view plan) = edit_view view (raw_view plan)
+request_view (request.Depth view to) = depth view to
+request_view (request.Expand view path) = expand view path
+request_view (request.Collapse view path) = collapse view path
 request_view (request.Take view wait) = take view wait
 request_view (request.Rows view first end) = rows view first end
 request_view (request.Close view) = close view

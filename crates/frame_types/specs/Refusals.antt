@@ -55,6 +55,9 @@ cause_name (cause.Plan part word) = plan_word word
 cause_name cause.TooManyViews = codes "too many views"
 cause_name cause.NoView = codes "no view"
 cause_name cause.ViewLost = codes "view lost"
+cause_name cause.NoRow = codes "no row"
+cause_name cause.NotAGroup = codes "not a group"
+cause_name cause.TooManyOpen = codes "too many open"
 cause_name cause.Window = codes "window"
 cause_name cause.NoTable = codes "no table"
 cause_name cause.Memory = codes "memory"
@@ -73,7 +76,6 @@ frame_cause frame.Json = cause.Json
 frame_cause frame.Object = cause.Object
 frame_cause frame.Op = cause.Op
 frame_cause frame.Member = cause.Member
-frame_cause frame.Unbuilt = cause.Unbuilt
 
 abbrev pub schema_cause : SchemaCause → Cause
 schema_cause schema.NoColumns = cause.NoColumns
@@ -101,7 +103,7 @@ row_cause row.Long = cause.Long
 
 -- ---- the refusals by their codes
 
--- the line is no request, or asks for a form that isn't built yet
+-- the line is no request, or its plan isn't built yet
 abbrev pub bad_frame : Cause → Refusal
 bad_frame why = record { code = 1; cause = why; at = Zero }
 
@@ -168,6 +170,18 @@ no_view = record { code = 15; cause = cause.NoView; at = Zero }
 -- an update of the view found no memory, at that version
 abbrev pub view_lost : ℕ → Refusal
 view_lost version = record { code = 16; cause = cause.ViewLost; at = One version }
+
+-- no shown group row has that path
+abbrev pub no_row : Refusal
+no_row = record { code = 17; cause = cause.NoRow; at = Zero }
+
+-- the path is as long as the view's group columns
+abbrev pub not_a_group : Refusal
+not_a_group = record { code = 18; cause = cause.NotAGroup; at = Zero }
+
+-- 4,096 other groups of the view were opened or closed one by one
+abbrev pub too_many_open : Refusal
+too_many_open = record { code = 19; cause = cause.TooManyOpen; at = One 4096 }
 
 -- the window ends before it begins
 abbrev pub bad_window : ℕ → ℕ → Refusal

@@ -17,7 +17,7 @@ pub enum Cause {
     Op,
     /// A member of a request is missing, unknown or not of its form.
     Member,
-    /// A form or a plan isn't built yet.
+    /// A plan with splits isn't built yet.
     Unbuilt,
     /// A table was made before.
     TableSet,
@@ -79,6 +79,12 @@ pub enum Cause {
     NoView,
     /// An update of the view found no memory.
     ViewLost,
+    /// No shown group row has that path.
+    NoRow,
+    /// A path is as long as the view's group columns, so that no group lies below it.
+    NotAGroup,
+    /// Too many other groups of the view were opened or closed one by one.
+    TooManyOpen,
     /// A window of rows ends before it begins.
     Window,
     /// No table was made.
@@ -148,7 +154,7 @@ pub enum Body {
         shown: Shown,
         view: u64,
     },
-    /// The view's plan was changed; `edit` counts such changes.
+    /// The view's plan was changed, or which of its groups are open; `edit` counts such changes.
     Edited {
         edit: u64,
         view: u64,

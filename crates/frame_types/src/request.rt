@@ -1,4 +1,4 @@
-use cell_core::{Columns, Raw, Text};
+use cell_core::{Columns, Path, Raw, Text};
 
 /// Why a line is no request. The causes are tested in this order.
 #[derive(Clone, Copy, Debug, Drop, PartialEq, Eq)]
@@ -13,8 +13,6 @@ pub enum FrameCause {
     Op,
     /// A member is missing, unknown or not of its form.
     Member,
-    /// The form isn't built yet.
-    Unbuilt,
 }
 
 /// What a client asks.
@@ -75,6 +73,22 @@ pub enum Request {
     Edit {
         view: u64,
         plan: Raw,
+    },
+    /// Opens all groups of a view whose paths are shorter than `depth` and closes the others. What was opened or closed
+    /// one by one is forgotten.
+    Depth {
+        view: u64,
+        depth: u64,
+    },
+    /// Opens a group of a view that is shown.
+    Expand {
+        view: u64,
+        path: Path,
+    },
+    /// Closes a group of a view that is shown.
+    Collapse {
+        view: u64,
+        path: Path,
     },
     /// Asks for what changed in a view since the last opening, delta or resynchronisation that was answered
     /// for it. `wait` has no effect on the answer.

@@ -5,7 +5,7 @@ use crate::refused;
 use cell_core::Steps;
 use frame_types::{Body, Refusal, Request};
 use hub_ports::Ports;
-use hub_views::Views;
+use hub_views::{Change, Views};
 use std::alloc::Global;
 use std::sync::ledger::Ledger;
 use table_core::Table;
@@ -31,6 +31,7 @@ impl Engine {
     ghost use Rattle.frame_types.specs.ReplyData.{EndsAt};
     ghost use Rattle.hub_spec.specs.Giving.{AfterEach, AnswersAfter, body_in};
     ghost use Rattle.hub_core.specs.Holding.{HoldsAll, HoldsSchema};
+    ghost use Rattle.hub_views.specs.Changing.{asked_by};
 
     /// A table with no rows, without ports and views.
     pub fn new(alloc: Global, table: Table) -> Engine
@@ -73,13 +74,35 @@ impl Engine {
                 self.views
                     .open(session, &plan, bound, &self.table, self.version, steps)
             }
-            Request::Edit { view, plan } => {
-                self.views.edit(session, view, &plan, &self.table, steps)
+            Request::Edit { view, plan } => self.change(session, view, Change::Plan(plan), steps),
+            Request::Depth { view, depth } => {
+                self.change(session, view, Change::Depth(depth), steps)
+            }
+            Request::Expand { view, path } => {
+                self.change(session, view, Change::Expand(path), steps)
+            }
+            Request::Collapse { view, path } => {
+                self.change(session, view, Change::Collapse(path), steps)
             }
             Request::Take { view, wait: _ } => self.views.take(session, view, self.version),
             Request::Rows { view, from, to } => self.views.rows(session, view, from, to),
             Request::Close { view } => self.views.close(session, view),
             Request::Unread(why) => Err(refused::unread(why)),
         }
+    }
+
+    /// Makes a change of a view.
+    fn change<L: Ledger>(
+        &mut self,
+        session: u32,
+        view: u64,
+        change: Change,
+        steps: &mut Steps<L>,
+    ) -> Result<Body, Refusal>
+        ensures gives { AnswersAfter (HoldsAll self.old) session (asked_by view change) (body_in result) (HoldsAll self.new) }
+        ensures ends { EndsAt self.new.version (body_in result) }
+    {
+        self.views
+            .change(session, view, &change, &self.table, steps)
     }
 }

@@ -25,7 +25,6 @@ pub fn unread(why: FrameCause) -> Refusal
         FrameCause::Object => Cause::Object,
         FrameCause::Op => Cause::Op,
         FrameCause::Member => Cause::Member,
-        FrameCause::Unbuilt => Cause::Unbuilt,
     };
     refused(1, cause, Numbers::Zero)
 }

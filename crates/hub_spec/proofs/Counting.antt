@@ -1,10 +1,9 @@
 -- What is counted in a history is at most as long as the history.
-use Rattle.std.proofs.Common.{ℕ, ◌+◌, ◌≤◌, eqb, Bool, true, false, cond, List, [], ◌∷◌, length, map, All, Option, Some, None, Result, Ok, Err, if◌then◌else◌, arith, length-append}
+use Rattle.std.proofs.Common.{◌≡◌, ℕ, ◌+◌, ◌≤◌, eqb, Bool, true, false, cond, List, [], ◌∷◌, length, map, All, Option, Some, None, Result, Ok, Err, if◌then◌else◌, arith, length-append}
 use Rattle.std.specs.Prelude.{not}
 use Rattle.std.specs.List.{list_any}
 use Rattle.std.proofs.lemmas.List.Elements.{All-nil, All-map, All-weaker, All-push, All-filter}
 use Rattle.cell_core.specs.Schemas.{SchemaData}
-use Rattle.cell_core.specs.declared.schema.Column.{Column}
 use Rattle.row_batch.specs.declared.batch.Batch.{Batch}
 use Rattle.frame_types.specs.Asks.{Ask}
 use Rattle.frame_types.specs.Asks as ask
@@ -13,11 +12,12 @@ use Rattle.frame_types.specs.declared.reply.Body.TheVariants as body
 use Rattle.frame_types.specs.declared.reply.Refusal.{Refusal}
 use Rattle.plan_types.specs.declared.plan.Plan.{Plan}
 use Rattle.hub_spec.specs.Past.{PastStep, times}
-use Rattle.hub_spec.specs.HeldViews.{HeldView, edited, edited_at, is_view, lost_at, opened_view, views, with_edited, with_opened, with_view}
+use Rattle.hub_spec.specs.HeldViews.{HeldView, changed_at, is_view, lost_at, opened_view, views, with_changed, with_opened, with_view}
 use Rattle.hub_spec.specs.Plans.{plan_asked}
 use Rattle.hub_spec.specs.Ports.{Applied, schema, batches_accepted, batches_applied, version_after, with_batch, with_queued, with_first, with_applied}
 use Rattle.hub_spec.specs.Reading.{batch_asked}
 use Rattle.hub_spec.specs.Rows.{schema_or_none}
+use Rattle.hub_spec.proofs.Numbering.{IsEdit, edit_holds}
 
 pub times_le : (test : PastStep → Bool) (past : List PastStep) → times test past ≤ length past
 times_le test [] = omega arith
@@ -71,11 +71,11 @@ edits_changed few more f vs raises all = All-map (IsEditedUpTo more) f vs (All-w
 edits_more : (n : ℕ) (vs : List HeldView) → All (IsEditedUpTo n) vs → All (IsEditedUpTo (n + 1)) vs
 edits_more n vs all = All-weaker (IsEditedUpTo n) (IsEditedUpTo (n + 1)) (λ v few. omega (arith, few)) vs all
 
-edit_raised : (n : ℕ) (columns : List Column) (session number : ℕ) (plan : Plan) (v : HeldView) → IsEditedUpTo n v → IsEditedUpTo (n + 1) (edited_at columns session number plan v)
-edit_raised n columns session number plan v few = by (is_view session number v)
+edit_raised : (n session number : ℕ) (change : HeldView → HeldView) → IsEdit change → (v : HeldView) → IsEditedUpTo n v → IsEditedUpTo (n + 1) (changed_at session number change v)
+edit_raised n session number change is v few = by (is_view session number v)
   where
-    by : (b : Bool) → IsEditedUpTo (n + 1) (cond b (edited columns plan v) v)
-    by true = omega (arith, few)
+    by : (b : Bool) → IsEditedUpTo (n + 1) (cond b (change v) v)
+    by true = let more : (change v).edit ≡ v.edit + 1 = is.counted v in omega (arith, few, more)
     by false = omega (arith, few)
 
 edit_lost : (n at : ℕ) (lost : List (ℕ × ℕ)) (v : HeldView) → IsEditedUpTo n v → IsEditedUpTo (n + 1) (lost_at at lost v)
@@ -89,19 +89,17 @@ edits_opened : (n session number bound : ℕ) (asked : Result Plan Refusal) (vs 
 edits_opened n session number bound (Ok plan) vs all = All-push (IsEditedUpTo n) vs (opened_view session number plan bound) all (omega arith)
 edits_opened n session number bound (Err why) vs all = all
 
-edits_edited : (n : ℕ) (columns : List Column) (session number : ℕ) (asked : Result Plan Refusal) (vs : List HeldView) → All (IsEditedUpTo n) vs
-    → All (IsEditedUpTo (n + 1)) (with_edited columns session number asked vs)
-edits_edited n columns session number (Ok plan) vs all = edits_changed n (n + 1) (edited_at columns session number plan) vs (edit_raised n columns session number plan) all
-edits_edited n columns session number (Err why) vs all = edits_more n vs all
+edits_edited : (n session number : ℕ) (change : HeldView → HeldView) (vs : List HeldView) → IsEdit change → All (IsEditedUpTo n) vs
+    → All (IsEditedUpTo (n + 1)) (with_changed session number change vs)
+edits_edited n session number change vs is all = edits_changed n (n + 1) (changed_at session number change) vs (edit_raised n session number change is) all
 
 edits_step : (n : ℕ) (past : List PastStep) (session : ℕ) (answer : Body) (request : Ask) (vs : List HeldView) → All (IsEditedUpTo n) vs
     → All (IsEditedUpTo (n + 1)) (with_view past session answer request vs)
 edits_step n past session (body.Opened edit seen view) (ask.open_view plan bound) vs all =
     edits_more n (with_opened session view bound (plan_asked (schema_or_none past) plan) vs) (edits_opened n session view bound (plan_asked (schema_or_none past) plan) vs all)
 edits_step n past session (body.Opened edit seen view) request vs all = edits_more n vs all
-edits_step n past session (body.Edited edit view) (ask.edit_view number plan) vs all =
-    edits_edited n (schema_or_none past).columns session number (plan_asked (schema_or_none past) plan) vs all
-edits_step n past session (body.Edited edit view) request vs all = edits_more n vs all
+edits_step n past session (body.Edited edit view) request vs all =
+    edit_holds (All (IsEditedUpTo (n + 1))) past session edit view request vs (edits_more n vs all) (λ number change is. edits_edited n session number change vs is all)
 edits_step n past session (body.AppliedLosing lost port seq) request vs all =
     let at : ℕ = version_after past (body.AppliedLosing lost port seq) in
     edits_changed n (n + 1) (lost_at at lost) vs (edit_lost n at lost) all

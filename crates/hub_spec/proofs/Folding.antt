@@ -1,12 +1,11 @@
 -- What a client holds that folds each delta is what the view showed at its base.
-use Rattle.std.proofs.Common.{◌≡◌, ℕ, ◌+◌, eqb, Bool, true, false, ◌||◌, ◌&&◌, cond, List, [], ◌∷◌, ◌++◌, map, filter, fold, find, All, Option, Some, None, Result, Ok, Err, refl, sym, ap, ◌∙◌, subst, ◌⊎◌, inl, inr}
+use Rattle.std.proofs.Common.{◌≡◌, ℕ, eqb, Bool, true, false, ◌||◌, ◌&&◌, cond, List, [], ◌∷◌, ◌++◌, map, filter, fold, find, All, Option, Some, None, Result, Ok, Err, refl, sym, ap, ◌∙◌, subst, ◌⊎◌, inl, inr}
 use Rattle.std.specs.Prelude.{is_some, not, unwrap_or, option_and_then}
 use Rattle.std.specs.List.{IsDistinct, list_any}
 use Rattle.std.specs.List.Sorted.{IsStrictlySortedBy}
 use Rattle.std.proofs.lemmas.Bool.{eqb-true, eq-eqb}
 use Rattle.std.proofs.lemmas.List.Folds.{list_any-append}
 use Rattle.cell_core.specs.Schemas.{SchemaData}
-use Rattle.cell_core.specs.declared.schema.Column.{Column}
 use Rattle.plain_data.specs.Distinct.{AreDistinct}
 use Rattle.row_batch.specs.Batches.{Store, empty_store}
 use Rattle.row_batch.specs.Tables.{keys_of_rows}
@@ -22,7 +21,6 @@ use Rattle.view_types.specs.declared.shown.Shown.{Shown}
 use Rattle.delta_core.specs.KeySets.{is_among, with_keys}
 use Rattle.delta_core.specs.Deltas.{marked}
 use Rattle.delta_core.specs.Laws.{Agree, FoldsTo}
-use Rattle.delta_core.specs.declared.delta.Delta.{Delta}
 use Rattle.delta_core.specs.declared.folding.Held.{Held}
 use Rattle.delta_core.proofs.KeySetLemmas.{is_among-with_keys}
 use Rattle.plan_types.specs.declared.plan.Plan.{Plan}
@@ -32,13 +30,13 @@ use Rattle.view_spec.specs.declared.placed.PlacedRow.{PlacedRow}
 use Rattle.view_spec.proofs.TouchLaws.{IsPlaced, delta_restores, is_placed, rows_of, touched_agree, touched_keys-itself}
 use Rattle.hub_spec.specs.Past.{PastStep}
 use Rattle.hub_spec.specs.Bases.{base, base_or_none, delta_in, dirty, edit_by, fold_in, folded_after, folded_in, head_dirty, header_differs, is_base, mark_in, no_base, placed_by, placed_in, shown_by, shown_in, tells_of}
-use Rattle.hub_spec.specs.HeldViews.{HeldView, edited_at, held_view, is_view, lost_at, opened_view, shown, side, views, with_edited, with_opened}
+use Rattle.hub_spec.specs.HeldViews.{HeldView, changed_at, held_view, is_view, lost_at, opened_view, shown, side, views, with_opened, with_view}
 use Rattle.hub_spec.specs.Histories.{Entry, past_of, answer_to}
 use Rattle.hub_spec.specs.Laws.{DeltasFold}
 use Rattle.hub_spec.specs.Ports.{Applied, batches_applied, version_after}
 use Rattle.hub_spec.specs.Plans.{plan_asked}
 use Rattle.hub_spec.specs.Rows.{put_applied, rows, schema_or_none}
-use Rattle.hub_spec.proofs.Numbering.{IsNumbered, KeepsNames, are_new, edited_name, found_new, lost_name, numbers_given}
+use Rattle.hub_spec.proofs.Numbering.{IsNumbered, KeepsNames, are_new, changed_name, edit_holds, found_new, lost_name, numbers_given}
 use Rattle.hub_spec.proofs.Said.{Says, says_answer}
 
 -- ---- no key stands twice among the rows
@@ -122,10 +120,11 @@ held_changed : (session number : ℕ) (f : HeldView → HeldView) (vs : List Hel
 held_changed session number f vs keeps held =
     has_is_any (is_view session number) vs ∙ sym (any_changed session number f vs keeps) ∙ sym (has_is_any (is_view session number) (map f vs)) ∙ held
 
-held_edited : (columns : List Column) (session view s number : ℕ) (asked : Result Plan Refusal) (vs : List HeldView) → Has s number (with_edited columns session view asked vs) ≡ true
+held_edited : (past : List PastStep) (session edit view : ℕ) (request : Ask) (s number : ℕ) (vs : List HeldView) → Has s number (with_view past session (body.Edited edit view) request vs) ≡ true
     → Has s number vs ≡ true
-held_edited columns session view s number (Ok plan) vs held = held_changed s number (edited_at columns session view plan) vs (edited_name columns session view plan) held
-held_edited columns session view s number (Err why) vs held = held
+held_edited past session edit view request s number vs =
+    edit_holds (λ ws. Has s number ws ≡ true → Has s number vs ≡ true) past session edit view request vs (λ held. held)
+    (λ asked change is. held_changed s number (changed_at session asked change) vs (changed_name session asked change is.name))
 
 abbrev step : ℕ → Ask → ℕ → ℕ → Body → PastStep
 step session request n at answer = record { session = session; request = request; reply = record { n = n; version = at; body = answer } }
@@ -148,9 +147,7 @@ held_before : (past : List PastStep) (session n at : ℕ) (request : Ask) (answe
 held_before past session n at (ask.open_view plan bound) (body.Opened edit shown view) s number h =
     opened_before session view bound s number (plan_asked (schema_or_none past) plan) (views past) h
 held_before past session n at request (body.Opened edit shown view) s number h = inr h
-held_before past session n at (ask.edit_view view plan) (body.Edited edit edited) s number h =
-    inr (held_edited (schema_or_none past).columns session view s number (plan_asked (schema_or_none past) plan) (views past) h)
-held_before past session n at request (body.Edited edit edited) s number h = inr h
+held_before past session n at request (body.Edited edit view) s number h = inr (held_edited past session edit view request s number (views past) h)
 held_before past session n at request (body.AppliedLosing lost port seq) s number h =
     let at_loss : ℕ = version_after past (body.AppliedLosing lost port seq) in
     inr (held_changed s number (lost_at at_loss lost) (views past) (lost_name at_loss lost) h)

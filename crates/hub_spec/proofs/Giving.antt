@@ -1,9 +1,10 @@
 -- What is given: an answer that names no choice, and want of memory.
-use Rattle.std.proofs.Common.{◌≡◌, ℕ, eqb, leb, Bool, true, false, ◌||◌, List, [], ◌∷◌, length, Option, Some, None, Result, Ok, Err, if◌then◌else◌, refl, sym, ap, ◌∙◌}
+use Rattle.std.proofs.Common.{◌≡◌, ℕ, ◌+◌, eqb, leb, Bool, true, false, ◌||◌, List, [], ◌∷◌, length, Option, Some, None, Result, Ok, Err, if◌then◌else◌, refl, sym, ap, ◌∙◌}
 use Rattle.std.specs.Prelude.{ℤ, is_none, is_some, not, option_map}
 use Rattle.std.specs.Result.{IsErr, IsErrAnd}
 use Rattle.cell_core.specs.RawData.{RawData}
 use Rattle.cell_core.specs.Schemas.{SchemaData, schema_of}
+use Rattle.cell_core.specs.declared.cell.Cell.{Cell}
 use Rattle.cell_core.specs.declared.schema.ColumnWords.{ColumnWords}
 use Rattle.cell_core.specs.declared.schema.SchemaRefused.{SchemaRefused}
 use Rattle.cell_core.specs.declared.schema.SchemaRefused.TheVariants as schema
@@ -11,7 +12,7 @@ use Rattle.row_batch.specs.declared.batch.Batch.{Batch}
 use Rattle.row_batch.specs.declared.refused.BatchRefused.{BatchRefused}
 use Rattle.frame_types.specs.Asks.{Ask}
 use Rattle.frame_types.specs.Asks as ask
-use Rattle.frame_types.specs.Refusals.{bad_frame, no_table, table_set, view_lost}
+use Rattle.frame_types.specs.Refusals.{bad_frame, no_table, no_view, table_set, view_lost}
 use Rattle.frame_types.specs.declared.reply.Body.{Body}
 use Rattle.frame_types.specs.declared.reply.Body.TheVariants as body
 use Rattle.frame_types.specs.declared.reply.Cause.TheVariants.{Unbuilt}
@@ -22,7 +23,7 @@ use Rattle.plan_json.specs.Plans.{RawPlanData}
 use Rattle.plan_json.specs.Reading.{plan_of}
 use Rattle.plan_types.specs.declared.plan.Plan.{Plan}
 use Rattle.hub_spec.specs.Past.{PastStep}
-use Rattle.hub_spec.specs.Answers.{first_of, refused_if, refusals, grant, edited_answer, without_table, faulty_plan, faulty_schema, faulty_rows, full_table_for, lost_view, opened_answer, take_answer, window_of}
+use Rattle.hub_spec.specs.Answers.{first_of, refused_if, refusals, grant, edited_answer, without_row, without_table, without_view, faulty_plan, faulty_schema, faulty_rows, full_of_singles, full_table_for, lost_view, opened_answer, take_answer, whole_path, window_of}
 use Rattle.hub_spec.specs.Bases.{delta_in, dirty}
 use Rattle.hub_spec.specs.Giving.{IsGiven, body_in, plain_in}
 use Rattle.hub_spec.specs.HeldViews.{HeldView, held_view, shown}
@@ -78,6 +79,20 @@ lost_wants (Some v) = by v.lost
     by None = tt
     by (Some version) = refl
 
+whole_wants : (view : Option HeldView) (path : List Cell) → MayWant (whole_path view path)
+whole_wants None path = tt
+whole_wants (Some v) path = if_wants _ _ refl
+
+singles_want : (view : Option HeldView) (path : List Cell) → MayWant (full_of_singles view path)
+singles_want None path = tt
+singles_want (Some v) path = if_wants _ _ refl
+
+-- of a request that opens or closes a group, behind the table
+group_wants : (past : List PastStep) (session view : ℕ) (path : List Cell)
+    → AllMayWant (without_view past session view ∷ lost_view (held_view past session view) ∷ without_row past session view path
+    ∷ whole_path (held_view past session view) path ∷ full_of_singles (held_view past session view) path ∷ [])
+group_wants past session view path = (if_wants _ _ refl, (lost_wants _, (if_wants _ _ refl, (whole_wants (held_view past session view) path, (singles_want (held_view past session view) path, tt)))))
+
 plan_wants : (schema : SchemaData) (plan : RawData) → MayWant (faulty_plan (plan_asked schema plan))
 plan_wants schema plan = by (is_unbuilt plan) (plan_of plan)
   where
@@ -123,9 +138,10 @@ window_wants : (past : List PastStep) (view first end : ℕ) (v : Option HeldVie
 window_wants past view first end None = refl
 window_wants past view first end (Some v) = refl
 
-edited_wants : (view : ℕ) (plan : RawData) (v : Option HeldView) → takes_none (ask.edit_view view plan) (edited_answer view v) ≡ false
-edited_wants view plan None = refl
-edited_wants view plan (Some v) = refl
+edited_wants : (request : Ask) (view : ℕ) (v : Option HeldView) → GoesByCode request → ((edit : ℕ) → takes_none request (body.Edited edit view) ≡ false)
+    → takes_none request (edited_answer view v) ≡ false
+edited_wants request view None goes takes = goes no_view
+edited_wants request view (Some v) goes takes = takes (v.edit + 1)
 
 opened_wants : (past : List PastStep) (session : ℕ) (plan : RawData) (bound : ℕ) (schema : SchemaData)
     → takes_none (ask.open_view plan bound) (opened_answer past session bound (plan_asked schema plan)) ≡ false
@@ -178,7 +194,16 @@ may_want past session (ask.open_view plan bound) takes made =
 may_want past session (ask.edit_view view plan) takes made =
     wants_behind past session (ask.edit_view view plan) _ refl (λ why. refl)
     (if_wants _ _ refl, (if_wants _ _ refl, (lost_wants _, (plan_wants (schema_or_none past) plan, tt))))
-    (edited_wants view plan (held_view past session view)) made
+    (edited_wants (ask.edit_view view plan) view (held_view past session view) (λ why. refl) (λ edit. refl)) made
+may_want past session (ask.depth view depth) takes made =
+    wants_behind past session (ask.depth view depth) _ refl (λ why. refl) (if_wants _ _ refl, (lost_wants _, tt))
+    (edited_wants (ask.depth view depth) view (held_view past session view) (λ why. refl) (λ edit. refl)) made
+may_want past session (ask.expand view path) takes made =
+    wants_behind past session (ask.expand view path) _ refl (λ why. refl) (group_wants past session view path)
+    (edited_wants (ask.expand view path) view (held_view past session view) (λ why. refl) (λ edit. refl)) made
+may_want past session (ask.collapse view path) takes made =
+    wants_behind past session (ask.collapse view path) _ refl (λ why. refl) (group_wants past session view path)
+    (edited_wants (ask.collapse view path) view (held_view past session view) (λ why. refl) (λ edit. refl)) made
 may_want past session (ask.take view wait) takes made =
     wants_behind past session (ask.take view wait) _ refl (λ why. refl) (if_wants _ _ refl, (lost_wants _, tt))
     (taken_wants past session view wait (held_view past session view)) made

@@ -12,8 +12,10 @@ use Rattle.frame_types.specs.declared.reply.Body.{Body}
 use Rattle.frame_types.specs.declared.reply.Body.TheVariants as body
 use Rattle.frame_types.specs.declared.reply.Refusal.{Refusal}
 use Rattle.plan_types.specs.declared.plan.Plan.{Plan}
+use Rattle.view_spec.specs.Openings.{Opening}
+use Rattle.view_shape.specs.Singles.{with_single}
 use Rattle.hub_spec.specs.Past.{PastStep}
-use Rattle.hub_spec.specs.HeldViews.{HeldView, edited, edited_at, is_opened_in, is_view, lost_at, opened_count, opened_view, views, with_edited, with_opened, with_view}
+use Rattle.hub_spec.specs.HeldViews.{HeldView, changed_at, edited, is_opened_in, is_view, lost_at, opened_count, opened_view, reopened, to_depth, views, with_changed, with_edited, with_opened, with_view}
 use Rattle.hub_spec.specs.Histories.{Entry, answer_to, past_of}
 use Rattle.hub_spec.specs.Plans.{plan_asked}
 use Rattle.hub_spec.specs.Ports.{version_after}
@@ -67,22 +69,56 @@ lost_name at lost v = by (list_any (λ (w : ℕ × ℕ). is_view w.0 w.1 v) lost
     by true = record { session = refl; number = refl }
     by false = record { session = refl; number = refl }
 
-pub edited_name : (columns : List Column) (session number : ℕ) (plan : Plan) → KeepsNames (edited_at columns session number plan)
-edited_name columns session number plan v = by (is_view session number v)
+pub changed_name : (session number : ℕ) (change : HeldView → HeldView) → KeepsNames change → KeepsNames (changed_at session number change)
+changed_name session number change keeps v = by (is_view session number v)
   where
-    by : (b : Bool) → IsSameName v (cond b (edited columns plan v) v)
-    by true = record { session = refl; number = refl }
+    by : (b : Bool) → IsSameName v (cond b (change v) v)
+    by true = keeps v
     by false = record { session = refl; number = refl }
+
+-- ---- edits
+
+-- a change of a view that is one edit more of it
+pub record IsEdit (change : HeldView → HeldView) : Type 0 where
+  pub name : KeepsNames change
+  pub counted : (v : HeldView) → (change v).edit ≡ v.edit + 1
+
+pub is_edited : (columns : List Column) (plan : Plan) → IsEdit (edited columns plan)
+is_edited columns plan = record { name = λ v. record { session = refl; number = refl }; counted = λ v. refl }
+
+pub is_reopened : (change : Opening → Opening) → IsEdit (reopened change)
+is_reopened change = record { name = λ v. record { session = refl; number = refl }; counted = λ v. refl }
+
+pub edited_name : (columns : List Column) (session number : ℕ) (plan : Plan) → KeepsNames (changed_at session number (edited columns plan))
+edited_name columns session number plan = changed_name session number (edited columns plan) (is_edited columns plan).name
+
+-- the views after any one edit have the property
+abbrev pub AfterEdit : (List HeldView → Type 0) → ℕ → List HeldView → Type 0
+AfterEdit Holds session vs = (number : ℕ) (change : HeldView → HeldView) → IsEdit change → Holds (with_changed session number change vs)
+
+edited_holds : (Holds : List HeldView → Type 0) (columns : List Column) (session number : ℕ) (asked : Result Plan Refusal) (vs : List HeldView) → Holds vs → AfterEdit Holds session vs
+    → Holds (with_edited columns session number asked vs)
+edited_holds Holds columns session number (Ok plan) vs before after = after number (edited columns plan) (is_edited columns plan)
+edited_holds Holds columns session number (Err why) vs before after = before
+
+-- of whatever request, such an answer edits one view or changes none
+pub edit_holds : (Holds : List HeldView → Type 0) (past : List PastStep) (session edit view : ℕ) (request : Ask) (vs : List HeldView) → Holds vs → AfterEdit Holds session vs
+    → Holds (with_view past session (body.Edited edit view) request vs)
+edit_holds Holds past session edit view (ask.edit_view number plan) vs before after =
+    edited_holds Holds (schema_or_none past).columns session number (plan_asked (schema_or_none past) plan) vs before after
+edit_holds Holds past session edit view (ask.depth number depth) vs before after = after number (reopened (to_depth depth)) (is_reopened (to_depth depth))
+edit_holds Holds past session edit view (ask.expand number path) vs before after =
+    after number (reopened (λ o. with_single o path true)) (is_reopened (λ o. with_single o path true))
+edit_holds Holds past session edit view (ask.collapse number path) vs before after =
+    after number (reopened (λ o. with_single o path false)) (is_reopened (λ o. with_single o path false))
+edit_holds Holds past session edit view _ vs before after = before
+
+-- ---- numbers
 
 numbered_changed : (past : List PastStep) (f : HeldView → HeldView) (vs : List HeldView) → KeepsNames f → All (IsNumbered past) vs → All (IsNumbered past) (map f vs)
 numbered_changed past f vs keeps all =
     All-map (IsNumbered past) f vs (All-weaker (IsNumbered past) (λ v. IsNumbered past (f v))
     (λ v less. let name = keeps v in rw (name.session, name.number) less) vs all)
-
-numbered_edited : (past : List PastStep) (columns : List Column) (session number : ℕ) (asked : Result Plan Refusal) (vs : List HeldView) → All (IsNumbered past) vs
-    → All (IsNumbered past) (with_edited columns session number asked vs)
-numbered_edited past columns session number (Ok plan) vs all = numbered_changed past (edited_at columns session number plan) vs (edited_name columns session number plan) all
-numbered_edited past columns session number (Err why) vs all = all
 
 numbered_opened : (past : List PastStep) (session number bound : ℕ) (asked : Result Plan Refusal) (vs : List HeldView) → number < opened_count past session
     → All (IsNumbered past) vs → All (IsNumbered past) (with_opened session number bound asked vs)
@@ -102,9 +138,9 @@ numbered_views : (past now : List PastStep) (session : ℕ) (answer : Body) (req
 numbered_views past now session (body.Opened edit seen view) (ask.open_view plan bound) vs less all =
     numbered_opened now session view bound (plan_asked (schema_or_none past) plan) vs less all
 numbered_views past now session (body.Opened edit seen view) request vs less all = all
-numbered_views past now session (body.Edited edit view) (ask.edit_view number plan) vs less all =
-    numbered_edited now (schema_or_none past).columns session number (plan_asked (schema_or_none past) plan) vs all
-numbered_views past now session (body.Edited edit view) request vs less all = all
+numbered_views past now session (body.Edited edit view) request vs less all =
+    edit_holds (All (IsNumbered now)) past session edit view request vs all
+    (λ number change is. numbered_changed now (changed_at session number change) vs (changed_name session number change is.name) all)
 numbered_views past now session (body.AppliedLosing lost port seq) request vs less all =
     let at : ℕ = version_after past (body.AppliedLosing lost port seq) in
     numbered_changed now (lost_at at lost) vs (lost_name at lost) all

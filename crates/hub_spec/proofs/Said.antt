@@ -84,6 +84,9 @@ says_granted : (past : List PastStep) (session : ℕ) (request : Ask) → NoneRe
 says_granted past session (ask.apply port) none = not_refused (eqb (length (waiting past port)) 0) empty none.1.1.0
 says_granted past session (ask.open_view plan bound) none = says_opened past session plan bound (plan_asked (schema_or_none past) plan) refl none.1.0
 says_granted past session (ask.edit_view view plan) none = says_edited past session (ask.edit_view view plan) view (held_view past session view)
+says_granted past session (ask.depth view depth) none = says_edited past session (ask.depth view depth) view (held_view past session view)
+says_granted past session (ask.expand view path) none = says_edited past session (ask.expand view path) view (held_view past session view)
+says_granted past session (ask.collapse view path) none = says_edited past session (ask.collapse view path) view (held_view past session view)
 says_granted past session (ask.take view wait) none = says_taken past session view (ask.take view wait) (held_view past session view) refl
 says_granted past session (ask.rows view first end) none = says_window past session (ask.rows view first end) (held_view past session view) view first end
 says_granted past session _ none = tt

@@ -5,6 +5,7 @@ use Rattle.value_core.specs.Values.{value_order}
 use Rattle.value_core.specs.declared.value.Value.TheVariants.{Whole}
 use Rattle.cell_core.specs.RawData.{RawData, raw_null, raw_int, raw_words, raw_list, raw_map, RawItems, no_raw_items, raw_item, no_raw_members, raw_member}
 use Rattle.cell_core.specs.Schemas.{SchemaData}
+use Rattle.cell_core.specs.declared.cell.Cell.{Cell}
 use Rattle.cell_core.specs.declared.cell.Cell.TheVariants.{Int}
 use Rattle.cell_core.specs.declared.cell.CellType.TheVariants as kind
 use Rattle.cell_core.specs.declared.schema.ColumnWords.{ColumnWords}
@@ -20,7 +21,7 @@ use Rattle.row_batch.specs.declared.refused.RowCause.TheVariants as row
 use Rattle.cell_core.specs.declared.schema.Numbers.TheVariants.{Zero, One, Two}
 use Rattle.cell_core.specs.declared.schema.SchemaCause.TheVariants as schema
 use Rattle.view_types.specs.declared.key.ViewKey.{ViewKey}
-use Rattle.view_types.specs.declared.key.ViewKey.TheVariants.{Row}
+use Rattle.view_types.specs.declared.key.ViewKey.TheVariants.{Row, Group}
 use Rattle.view_types.specs.declared.shown.HeaderColumn.{HeaderColumn}
 use Rattle.view_types.specs.declared.shown.Shown.{Shown}
 use Rattle.view_types.specs.declared.shown.ShownRow.{ShownRow}
@@ -29,7 +30,7 @@ use Rattle.delta_core.specs.declared.delta.Mark.{Mark}
 use Rattle.delta_core.specs.declared.delta.Put.{Put}
 use Rattle.frame_types.specs.Asks.{Ask}
 use Rattle.frame_types.specs.Asks as ask
-use Rattle.frame_types.specs.Refusals.{no_table, table_set, bad_schema, no_port, port_closed, too_many_ports, bad_rows, not_indexed, port_full, table_full, empty, bad_frame, bad_plan, plan_form, history_full, too_many_views, no_view, view_lost, bad_window, memory}
+use Rattle.frame_types.specs.Refusals.{no_table, table_set, bad_schema, no_port, port_closed, too_many_ports, bad_rows, not_indexed, port_full, table_full, empty, bad_frame, bad_plan, plan_form, history_full, too_many_views, no_view, view_lost, no_row, not_a_group, too_many_open, bad_window, memory}
 use Rattle.frame_types.specs.ReplyData.{ReplyData}
 use Rattle.frame_types.specs.declared.reply.Body.{Body}
 use Rattle.frame_types.specs.declared.reply.Body.TheVariants as body
@@ -43,7 +44,8 @@ use Rattle.plan_types.specs.declared.plan.Plan.{Plan}
 use Rattle.plan_types.specs.declared.tree.Tree.{Tree}
 use Rattle.plan_json.specs.declared.words.PlanCause.TheVariants as plan
 use Rattle.plan_json.specs.declared.words.PlanPart.TheVariants.{Columns}
-use Rattle.hub_spec.specs.HeldViews.{opening_after}
+use Rattle.hub_spec.specs.Answers.{full_of_singles}
+use Rattle.hub_spec.specs.HeldViews.{HeldView, opening_after}
 use Rattle.hub_spec.specs.Ports.{numbers_below}
 use Rattle.hub_spec.specs.Room.{different}
 use Rattle.hub_spec.specs.Histories.{Entry, Choice, plenty, want, losing, answer, past_of, is_allowed, history_after, entry_of}
@@ -254,7 +256,7 @@ taken_without_table = refl
 pub port_without_table : answer roomy [] (asks ask.port) ≡ reply 1 0 (body.Refused no_table)
 port_without_table = refl
 
-pub unread_without_table : answer roomy [] (asks (ask.unread frame.Unbuilt)) ≡ reply 1 0 refused_unbuilt
+pub unread_without_table : answer roomy [] (asks (ask.unread frame.Member)) ≡ reply 1 0 (body.Refused (bad_frame cause.Member))
 unread_without_table = refl
 
 pub unread_is_no_json : answer roomy with_rows (asks (ask.unread frame.Json)) ≡ reply 5 1 (body.Refused (bad_frame cause.Json))
@@ -320,8 +322,8 @@ pub second_view : answer roomy with_view (asks open_all) ≡ reply 6 1 (body.Ope
 unfolding value_order
 second_view = refl
 
-pub grouped_plan : answer roomy with_rows (asks (ask.open_view (with_member (codes "group_by") (raw_list (raw_item (raw_words (codes "k")) no_raw_items))) 10)) ≡ reply 5 1 refused_unbuilt
-grouped_plan = refl
+pub split_plan : answer roomy with_rows (asks (ask.open_view (with_member (codes "split_by") (raw_list (raw_item (raw_words (codes "k")) no_raw_items))) 10)) ≡ reply 5 1 refused_unbuilt
+split_plan = refl
 
 pub refused_plan_counts_in_its_session
     : answer roomy with_rows (by 1 (ask.open_view (with_member (codes "split_by") raw_null) 10) plenty) ≡ reply 1 1 refused_unbuilt
@@ -338,6 +340,11 @@ pub plan_without_groups : answer roomy with_rows (asks (ask.open_view (with_memb
     ≡ reply 5 1 (body.Opened 0 (shows (shown_row (pos 1) (pos 7) ∷ shown_row (pos 2) (pos 5) ∷ [])) 0)
 unfolding value_order
 plan_without_groups = refl
+
+pub plan_without_splits : answer roomy with_rows (asks (ask.open_view (with_member (codes "split_by") (raw_list no_raw_items)) 10))
+    ≡ reply 5 1 (body.Opened 0 (shows (shown_row (pos 1) (pos 7) ∷ shown_row (pos 2) (pos 5) ∷ [])) 0)
+unfolding value_order
+plan_without_splits = refl
 
 pub plan_of_an_unknown_column : answer roomy with_rows (asks (ask.open_view (with_member (codes "columns") (raw_list (raw_item (raw_words (codes "x")) no_raw_items))) 10))
     ≡ reply 5 1 (body.Refused (bad_plan Columns plan.Unknown (One 0)))
@@ -747,6 +754,147 @@ opening_of_other_groups tree = refl
 pub opening_of_another_order : opened_after (grouped (0 ∷ 1 ∷ []) []) (grouped (1 ∷ 0 ∷ []) []) ≡ record { depth = 2; singles = [] }
 opening_of_another_order = refl
 
+-- ---- groups that open and close
+
+-- `v` in sum, for each value of a column
+abbrev by_column : List ℕ → RawData
+by_column name = raw_map (raw_member (codes "columns") (raw_list (raw_item (raw_words (codes "v")) no_raw_items))
+    (raw_member (codes "group_by") (raw_list (raw_item (raw_words name) no_raw_items)) no_raw_members))
+
+abbrev with_groups : List Entry
+with_groups = asks (ask.open_view (by_column (codes "k")) 10) ∷ with_rows
+
+abbrev group_row : List Cell → Bool → ℤ → ShownRow
+group_row path mark sum = record { key = Group path; mark = mark; cells = (codes "v", Whole sum) ∷ [] }
+
+abbrev sums : List ShownRow → Shown
+sums rows = record { header = record { text = codes "v"; kind = Integer } ∷ []; rows = rows }
+
+abbrev one : List Cell
+one = Int (pos 1) ∷ []
+
+abbrev two : List Cell
+two = Int (pos 2) ∷ []
+
+abbrev three : List Cell
+three = Int (pos 3) ∷ []
+
+-- the total comes first
+abbrev all_open : Shown
+all_open = sums (group_row [] true (pos 12) ∷ group_row one false (pos 7) ∷ group_row two false (pos 5) ∷ [])
+
+abbrev total_alone : Shown
+total_alone = sums (group_row [] false (pos 12) ∷ [])
+
+pub groups_opened : answer roomy with_rows (asks (ask.open_view (by_column (codes "k")) 10)) ≡ reply 5 1 (body.Opened 0 all_open 0)
+unfolding value_order
+groups_opened = refl
+
+abbrev with_total : List Entry
+with_total = asks (ask.depth 0 0) ∷ with_groups
+
+pub depth_is_counted : answer roomy with_groups (asks (ask.depth 0 0)) ≡ reply 6 1 (body.Edited 1 0)
+depth_is_counted = refl
+
+pub depth_of_none : answer roomy with_total (asks (ask.rows 0 0 9)) ≡ reply 7 1 (body.Rows 1 0 total_alone 1 0)
+unfolding value_order
+depth_of_none = refl
+
+-- the groups are gone, and the total is put for its mark alone
+pub depth_is_told : answer roomy with_total (asks (take 0))
+    ≡ reply 7 1 (body.Delta (record { «from» = marks 1; to = edited_marks 1 1; removed = Group one ∷ Group two ∷ []; puts = put 0 (group_row [] false (pos 12)) ∷ []; header = None }) 0)
+unfolding value_order
+depth_is_told = refl
+
+-- the total is opened alone, and closed alone
+pub expand_is_counted : answer roomy with_total (asks (ask.expand 0 [])) ≡ reply 7 1 (body.Edited 2 0)
+unfolding value_order
+expand_is_counted = refl
+
+pub expand_of_the_total : answer roomy (asks (ask.expand 0 []) ∷ with_total) (asks (ask.rows 0 0 9)) ≡ reply 8 1 (body.Rows 2 0 all_open 3 0)
+unfolding value_order
+expand_of_the_total = refl
+
+pub collapse_of_the_total : answer roomy (asks (ask.collapse 0 []) ∷ with_groups) (asks (ask.rows 0 0 9)) ≡ reply 7 1 (body.Rows 1 0 total_alone 1 0)
+unfolding value_order
+collapse_of_the_total = refl
+
+-- a depth forgets what was closed one by one
+pub depth_forgets : answer roomy (asks (ask.depth 0 1) ∷ asks (ask.collapse 0 []) ∷ with_groups) (asks (ask.rows 0 0 9)) ≡ reply 8 1 (body.Rows 2 0 all_open 3 0)
+unfolding value_order
+depth_forgets = refl
+
+pub expand_of_no_group : answer roomy with_groups (asks (ask.expand 0 three)) ≡ reply 6 1 (body.Refused no_row)
+unfolding value_order
+expand_of_no_group = refl
+
+-- a group that isn't shown is none
+pub expand_of_a_hidden_group : answer roomy with_total (asks (ask.expand 0 one)) ≡ reply 7 1 (body.Refused no_row)
+unfolding value_order
+expand_of_a_hidden_group = refl
+
+-- below a path of all group columns lies no group
+pub expand_of_a_whole_path : answer roomy with_groups (asks (ask.expand 0 one)) ≡ reply 6 1 (body.Refused not_a_group)
+unfolding value_order
+expand_of_a_whole_path = refl
+
+pub collapse_of_a_whole_path : answer roomy with_groups (asks (ask.collapse 0 one)) ≡ reply 6 1 (body.Refused not_a_group)
+unfolding value_order
+collapse_of_a_whole_path = refl
+
+-- a view without groups has an opening all the same, and no group rows
+pub depth_of_a_flat_view : answer roomy with_view (asks (ask.depth 0 3)) ≡ reply 6 1 (body.Edited 1 0)
+depth_of_a_flat_view = refl
+
+pub expand_in_a_flat_view : answer roomy with_view (asks (ask.expand 0 [])) ≡ reply 6 1 (body.Refused no_row)
+unfolding value_order
+expand_in_a_flat_view = refl
+
+pub depth_without_table : answer roomy [] (asks (ask.depth 0 1)) ≡ reply 1 0 (body.Refused no_table)
+depth_without_table = refl
+
+pub depth_of_no_view : answer roomy with_rows (asks (ask.depth 0 1)) ≡ reply 5 1 (body.Refused no_view)
+depth_of_no_view = refl
+
+pub expand_by_another : answer roomy with_groups (by 1 (ask.expand 0 []) plenty) ≡ reply 1 1 (body.Refused no_view)
+expand_by_another = refl
+
+-- so many groups that were opened one by one, in the order of their paths
+abbrev singles : ℕ → List (List Cell × Bool)
+singles zero = []
+singles (suc n) = (Int (negsuc n) ∷ [], true) ∷ singles n
+
+abbrev with_singles : ℕ → Option HeldView
+with_singles n = Some (record {
+  session = 0;
+  number = 0;
+  plan = grouped (0 ∷ []) [];
+  opening = record { depth = 0; singles = singles n };
+  bound = 0;
+  edit = 0;
+  lost = None;
+})
+
+pub last_single : full_of_singles (with_singles 4095) one ≡ None
+last_single = refl
+
+pub single_too_many : full_of_singles (with_singles 4096) one ≡ Some too_many_open
+single_too_many = refl
+
+-- one that was opened before may be changed all the same
+pub single_again : full_of_singles (with_singles 4096) (Int (negsuc 7) ∷ []) ≡ None
+single_again = refl
+
+-- an edit that groups by the same names keeps the opening, and by others drops it
+pub edit_keeps_the_opening : answer roomy (edits (by_column (codes "k")) ∷ with_total) (asks (ask.rows 0 0 9)) ≡ reply 8 1 (body.Rows 2 0 total_alone 1 0)
+unfolding value_order
+edit_keeps_the_opening = refl
+
+pub edit_drops_the_opening : answer roomy (edits (by_column (codes "v")) ∷ with_total) (asks (ask.rows 0 0 9))
+    ≡ reply 8 1 (body.Rows 2 0 (sums (group_row [] true (pos 12) ∷ group_row (Int (pos 5) ∷ []) false (pos 5) ∷ group_row (Int (pos 7) ∷ []) false (pos 7) ∷ [])) 3 0)
+unfolding value_order
+edit_drops_the_opening = refl
+
 -- ---- slots and running numbers
 
 abbrev integers : Keeping → SchemaData
@@ -844,21 +992,28 @@ want_of_a_window = refl
 pub want_of_an_edit : may_want with_view (edits (raw_map no_raw_members)).request ≡ true
 want_of_an_edit = refl
 
+pub want_of_a_depth : may_want with_view (ask.depth 0 1) ≡ true
+want_of_a_depth = refl
+
+pub want_of_an_expand : may_want with_view (ask.expand 0 []) ≡ true
+unfolding value_order
+want_of_an_expand = refl
+
 pub no_want_without_table : may_want [] ask.port ≡ false
 no_want_without_table = refl
 
 pub no_want_of_an_unread_line : may_want with_table (ask.unread frame.Json) ≡ false
 no_want_of_an_unread_line = refl
 
-pub no_want_of_an_unbuilt_line : may_want with_table (ask.unread frame.Unbuilt) ≡ false
-no_want_of_an_unbuilt_line = refl
+pub no_want_of_a_wrong_member : may_want with_table (ask.unread frame.Member) ≡ false
+no_want_of_a_wrong_member = refl
 
 pub no_want_of_a_full_history : is_allowed 2 (past_of 2 with_port) 0 make_table want ≡ false
 no_want_of_a_full_history = refl
 
 -- ---- a full history
 
-pub full_at_two : answer 2 with_port (asks (ask.unread frame.Unbuilt)) ≡ reply 3 0 (body.Refused (history_full 2))
+pub full_at_two : answer 2 with_port (asks (ask.unread frame.Member)) ≡ reply 3 0 (body.Refused (history_full 2))
 full_at_two = refl
 
 pub full_of_another_session : answer 2 with_port (by 7 ask.port plenty) ≡ reply 1 0 (body.Refused (history_full 2))
@@ -905,6 +1060,12 @@ rows_of_a_lost_view = refl
 
 pub edit_of_a_lost_view : answer roomy with_lost (edits raw_null) ≡ reply 8 2 (body.Refused (view_lost 2))
 edit_of_a_lost_view = refl
+
+pub depth_of_a_lost_view : answer roomy with_lost (asks (ask.depth 0 1)) ≡ reply 8 2 (body.Refused (view_lost 2))
+depth_of_a_lost_view = refl
+
+pub expand_of_a_lost_view : answer roomy with_lost (asks (ask.expand 0 [])) ≡ reply 8 2 (body.Refused (view_lost 2))
+expand_of_a_lost_view = refl
 
 pub backwards_in_a_lost_view : answer roomy with_lost (asks (ask.rows 0 2 1)) ≡ reply 8 2 (body.Refused (view_lost 2))
 backwards_in_a_lost_view = refl

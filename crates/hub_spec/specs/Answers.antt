@@ -5,6 +5,7 @@ use Rattle.cell_core.specs.Keepings.{is_indexed}
 use Rattle.cell_core.specs.Limits.{max_rows}
 use Rattle.cell_core.specs.RawData.{RawData}
 use Rattle.cell_core.specs.Schemas.{SchemaData, schema_of, type_name}
+use Rattle.cell_core.specs.declared.cell.Cell.{Cell}
 use Rattle.cell_core.specs.declared.schema.Column.{Column}
 use Rattle.cell_core.specs.declared.schema.ColumnWords.{ColumnWords}
 use Rattle.cell_core.specs.declared.schema.Keeping.{Keeping}
@@ -15,17 +16,20 @@ use Rattle.row_batch.specs.declared.batch.Batch.{Batch}
 use Rattle.row_batch.specs.declared.refused.BatchRefused.{BatchRefused}
 use Rattle.frame_types.specs.Asks.{Ask}
 use Rattle.frame_types.specs.Asks as ask
-use Rattle.frame_types.specs.Refusals.{frame_cause, bad_frame, table_set, bad_schema, too_many_ports, no_port, port_closed, bad_rows, not_indexed, port_full, table_full, history_full, empty, too_many_views, no_view, view_lost, bad_window, no_table, memory}
+use Rattle.frame_types.specs.Refusals.{frame_cause, bad_frame, table_set, bad_schema, too_many_ports, no_port, port_closed, bad_rows, not_indexed, port_full, table_full, history_full, empty, too_many_views, no_view, view_lost, no_row, not_a_group, too_many_open, bad_window, no_table, memory}
 use Rattle.frame_types.specs.declared.reply.Body.{Body}
 use Rattle.frame_types.specs.declared.reply.Cause.TheVariants.{Unbuilt}
 use Rattle.frame_types.specs.declared.reply.Body.TheVariants as body
 use Rattle.frame_types.specs.declared.reply.Refusal.{Refusal}
 use Rattle.plan_types.specs.declared.plan.Plan.{Plan}
+use Rattle.view_types.specs.declared.key.ViewKey.TheVariants.{Group}
 use Rattle.view_types.specs.declared.shown.Shown.{Shown}
+use Rattle.delta_core.specs.Rows.{has_row}
+use Rattle.view_shape.specs.Singles.{other_singles}
 use Rattle.hub_spec.specs.Past.{PastStep}
-use Rattle.hub_spec.specs.Bases.{delta_in, dirty}
+use Rattle.hub_spec.specs.Bases.{delta_in, dirty, shown_in}
 use Rattle.hub_spec.specs.HeldViews.{HeldView, views, held_view, held_by, opened_count, opened_view, shown}
-use Rattle.hub_spec.specs.Limits.{max_waiting, max_ports, max_views}
+use Rattle.hub_spec.specs.Limits.{max_waiting, max_ports, max_singles, max_views}
 use Rattle.hub_spec.specs.Ports.{schema as schema_made, ports, has_port, is_closed, used_ports, batches_accepted, taken_count, waiting, all_waiting}
 use Rattle.hub_spec.specs.Plans.{is_unbuilt, plan_asked}
 use Rattle.hub_spec.specs.Reading.{read_batch, batch_asked}
@@ -99,7 +103,21 @@ abbrev pub lost_view : Option HeldView → Option Refusal
 lost_view None = None
 lost_view (Some v) = option_map view_lost v.lost
 
--- groups, splits and aggregates aren't built yet
+-- no group row that the view shows has that path
+abbrev pub without_row : List PastStep → ℕ → ℕ → List Cell → Option Refusal
+without_row past session view path = refused_if (not (has_row (Group path) (shown_in past session view).rows)) no_row
+
+-- the path is as long as the group columns
+abbrev pub whole_path : Option HeldView → List Cell → Option Refusal
+whole_path None path = None
+whole_path (Some v) path = refused_if (length path == length v.plan.group_by) not_a_group
+
+-- so many other groups were opened or closed one by one
+abbrev pub full_of_singles : Option HeldView → List Cell → Option Refusal
+full_of_singles None path = None
+full_of_singles (Some v) path = refused_if (nat_le max_singles (other_singles v.opening path)) too_many_open
+
+-- splits aren't built yet
 abbrev pub unbuilt_plan : RawData → Option Refusal
 unbuilt_plan plan = refused_if (is_unbuilt plan) (bad_frame Unbuilt)
 
@@ -117,6 +135,19 @@ port_checks past port = without_table past ∷ without_port past port ∷ closed
 -- of a request that puts rows
 abbrev pub putting : List PastStep → ℕ → Ask → List (Option Refusal)
 putting past port request = port_checks past port ++ bad_batch past request ∷ full_port past port ∷ full_table past request ∷ []
+
+-- of a request that asks a view
+abbrev pub view_checks : List PastStep → ℕ → ℕ → List (Option Refusal)
+view_checks past session view = without_table past ∷ without_view past session view ∷ lost_view (held_view past session view) ∷ []
+
+-- of a request that opens or closes a group
+abbrev pub group_checks : List PastStep → ℕ → ℕ → List Cell → List (Option Refusal)
+group_checks past session view path =
+    view_checks past session view
+    ++ without_row past session view path
+    ∷ whole_path (held_view past session view) path
+    ∷ full_of_singles (held_view past session view) path
+    ∷ []
 
 abbrev pub refusals : List PastStep → ℕ → Ask → List (Option Refusal)
 refusals past session (ask.table columns index limit) =
@@ -153,17 +184,11 @@ refusals past session (ask.edit_view view plan) =
     ∷ lost_view (held_view past session view)
     ∷ faulty_plan (plan_asked (schema_or_none past) plan)
     ∷ []
-refusals past session (ask.take view wait) =
-    without_table past
-    ∷ without_view past session view
-    ∷ lost_view (held_view past session view)
-    ∷ []
-refusals past session (ask.rows view first end) =
-    without_table past
-    ∷ without_view past session view
-    ∷ lost_view (held_view past session view)
-    ∷ refused_if (nat_lt end first) (bad_window first end)
-    ∷ []
+refusals past session (ask.depth view depth) = view_checks past session view
+refusals past session (ask.expand view path) = group_checks past session view path
+refusals past session (ask.collapse view path) = group_checks past session view path
+refusals past session (ask.take view wait) = view_checks past session view
+refusals past session (ask.rows view first end) = view_checks past session view ++ refused_if (nat_lt end first) (bad_window first end) ∷ []
 refusals past session (ask.close view) =
     without_table past
     ∷ without_view past session view
@@ -232,6 +257,9 @@ grant past session (ask.close_port port) = body.PortClosed port
 grant past session (ask.apply port) = body.Applied port (taken_count past port + 1)
 grant past session (ask.open_view plan bound) = opened_answer past session bound (plan_asked (schema_or_none past) plan)
 grant past session (ask.edit_view view plan) = edited_answer view (held_view past session view)
+grant past session (ask.depth view depth) = edited_answer view (held_view past session view)
+grant past session (ask.expand view path) = edited_answer view (held_view past session view)
+grant past session (ask.collapse view path) = edited_answer view (held_view past session view)
 grant past session (ask.take view wait) = take_answer past session view (held_view past session view)
 grant past session (ask.rows view first end) = window_of (held_view past session view) (shown past) view first end
 grant past session (ask.close view) = body.Closed view

@@ -13,6 +13,7 @@ use Rattle.view_types.specs.declared.shown.Shown.{Shown}
 use Rattle.view_spec.specs.Columns.{column_at}
 use Rattle.view_spec.specs.Openings.{Opening, first_opening}
 use Rattle.view_spec.specs.Views.{Side, view}
+use Rattle.view_shape.specs.Singles.{with_single}
 use Rattle.hub_spec.specs.Past.{PastStep, times}
 use Rattle.hub_spec.specs.Plans.{plan_asked}
 use Rattle.hub_spec.specs.Ports.{version_after}
@@ -83,12 +84,22 @@ opening_after columns before after opening = if same_names (group_names columns 
 abbrev pub edited : List Column → Plan → HeldView → HeldView
 edited columns plan v = record v { plan = plan; opening = opening_after columns v.plan plan v.opening; edit = v.edit + 1 }
 
--- the view of that number, by another plan
-abbrev pub edited_at : List Column → ℕ → ℕ → Plan → HeldView → HeldView
-edited_at columns session number plan v = if is_view session number v then edited columns plan v else v
+-- all groups whose paths are shorter are open, and the others are not
+abbrev pub to_depth : ℕ → Opening → Opening
+to_depth depth opening = record { depth = depth; singles = [] }
+
+abbrev pub reopened : (Opening → Opening) → HeldView → HeldView
+reopened change v = record v { opening = change v.opening; edit = v.edit + 1 }
+
+-- the view of that number is changed, and the others stay
+abbrev pub changed_at : ℕ → ℕ → (HeldView → HeldView) → HeldView → HeldView
+changed_at session number change v = if is_view session number v then change v else v
+
+abbrev pub with_changed : ℕ → ℕ → (HeldView → HeldView) → List HeldView → List HeldView
+with_changed session number change all = map (changed_at session number change) all
 
 abbrev pub with_edited : List Column → ℕ → ℕ → Result Plan Refusal → List HeldView → List HeldView
-with_edited columns session number (Ok plan) all = map (edited_at columns session number plan) all
+with_edited columns session number (Ok plan) all = with_changed session number (edited columns plan) all
 with_edited columns session number (Err why) all = all
 
 -- ---- the views that are held
@@ -96,6 +107,9 @@ with_edited columns session number (Err why) all = all
 abbrev pub with_view : List PastStep → ℕ → Body → Ask → List HeldView → List HeldView
 with_view past session (body.Opened edit seen view) (ask.open_view plan bound) all = with_opened session view bound (plan_asked (schema_or_none past) plan) all
 with_view past session (body.Edited edit view) (ask.edit_view number plan) all = with_edited (schema_or_none past).columns session number (plan_asked (schema_or_none past) plan) all
+with_view past session (body.Edited edit view) (ask.depth number depth) all = with_changed session number (reopened (to_depth depth)) all
+with_view past session (body.Edited edit view) (ask.expand number path) all = with_changed session number (reopened (λ o. with_single o path true)) all
+with_view past session (body.Edited edit view) (ask.collapse number path) all = with_changed session number (reopened (λ o. with_single o path false)) all
 with_view past session (body.AppliedLosing lost port seq) request all = map (lost_at (version_after past (body.AppliedLosing lost port seq)) lost) all
 with_view past session (body.Closed view) request all = filter (λ v. not (is_view session view v)) all
 with_view past session (body.Left closed) request all = filter (λ v. not (v.session == session)) all

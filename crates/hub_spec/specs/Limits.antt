@@ -12,3 +12,7 @@ max_ports = 16
 -- the most views of all sessions
 abbrev pub max_views : ℕ
 max_views = 16
+
+-- the most groups of a view that may be opened or closed one by one
+abbrev pub max_singles : ℕ
+max_singles = 4096

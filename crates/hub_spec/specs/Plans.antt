@@ -1,6 +1,6 @@
 -- The plan that a request asks for.
-use Rattle.std.specs.Prelude.{codes, Bool, true, false, ◌||◌, Option, Some, None, Result, Ok, Err, if◌then◌else◌}
-use Rattle.cell_core.specs.RawData.{RawData, raw_list, raw_map, no_raw_items, no_raw_members, RawMembers, get_raw}
+use Rattle.std.specs.Prelude.{codes, Bool, true, false, Option, Some, None, Result, Ok, Err, if◌then◌else◌}
+use Rattle.cell_core.specs.RawData.{RawData, raw_list, raw_map, no_raw_items, get_raw}
 use Rattle.cell_core.specs.Schemas.{SchemaData}
 use Rattle.frame_types.specs.Refusals.{bad_frame, bad_plan, plan_form}
 use Rattle.frame_types.specs.declared.reply.Cause.TheVariants.{Unbuilt}
@@ -19,21 +19,9 @@ is_filled_list None = false
 is_filled_list (Some (raw_list no_raw_items)) = false
 is_filled_list (Some other) = true
 
--- there, and no empty object
-abbrev pub is_filled_object : Option RawData → Bool
-is_filled_object None = false
-is_filled_object (Some (raw_map no_raw_members)) = false
-is_filled_object (Some other) = true
-
-abbrev pub is_unbuilt_in : RawMembers → Bool
-is_unbuilt_in ms =
-    is_filled_list (get_raw (codes "group_by") ms)
-    || is_filled_list (get_raw (codes "split_by") ms)
-    || is_filled_object (get_raw (codes "aggregates") ms)
-
--- groups, splits and aggregates aren't built yet
+-- splits aren't built yet
 abbrev pub is_unbuilt : RawData → Bool
-is_unbuilt (raw_map ms) = is_unbuilt_in ms
+is_unbuilt (raw_map ms) = is_filled_list (get_raw (codes "split_by") ms)
 is_unbuilt other = false
 
 -- ---- the plan

@@ -1,6 +1,9 @@
+pub mod Asked
+pub mod AskedPlans
 pub mod Asking
-pub mod Edits
-pub mod FlatPlans
+pub mod Changes
+pub mod GroupNames
+pub mod GroupTests
 pub mod KeptViews
 pub mod Lists
 pub mod Losses

@@ -10,10 +10,9 @@ use Rattle.delta_core.specs.DirtySets.{dirty_of}
 use Rattle.delta_core.specs.declared.delta.Mark.{Mark}
 use Rattle.plan_types.specs.declared.plan.Plan.{Plan}
 use Rattle.view_spec.specs.Openings.{Opening, first_opening}
-use Rattle.view_spec.specs.Views.{view}
 use Rattle.view_kept.specs.Steps.{side_of}
-use Rattle.flat_live.specs.Flat.{StandsFlat, flat_shown, shows_flat}
-use Rattle.flat_live.specs.declared.live.FlatLive.{FlatLive}
+use Rattle.live_rows.specs.Live.{StandsLive, live_shown, shows_live}
+use Rattle.live_rows.specs.declared.live.LiveRows.{LiveRows}
 use Rattle.table_core.specs.Tables.{TableData}
 use Rattle.frame_types.specs.Asks as ask
 use Rattle.frame_types.specs.Limits.{sessions}
@@ -118,9 +117,9 @@ stands_push t (x ∷ us) [] u v all last = absurd all
 stands_push t (x ∷ us) (w ∷ vs) u v all last = (all.0, stands_push t us vs u v all.1 last)
 
 -- what is answered and held then
-pub opened_is : (was now : Views) (past : List PastStep) (session bound next version : ℕ) (plan : Plan) (t : TableData) (rows : FlatLive) (opening : Opening) (seen : Shown) (live : LiveView)
+pub opened_is : (was now : Views) (past : List PastStep) (session bound next version : ℕ) (plan : Plan) (t : TableData) (rows : LiveRows) (opening : Opening) (seen : Shown) (live : LiveView)
     → HoldsViews was t past → HoldsTable t version past → length past < 2 ^ 53 → session < sessions
-    → ((opening : Opening) → StandsFlat rows (side_of plan opening t)) → seen ≡ flat_shown rows → opening ≡ first_opening plan → live ≡ fresh_live bound (record { version = version; edit = 0 }) rows opening
+    → StandsLive rows (side_of plan opening t) → seen ≡ live_shown rows → opening ≡ first_opening plan → live ≡ fresh_live bound (record { version = version; edit = 0 }) rows opening
     → now.items.items ≡ was.items.items ++ record { session = session; number = get_or was.opened session 0; state = Live live } ∷ []
     → next ≡ min (get_or was.opened session 0 + 1) (2 ^ 64 - 1) → now.opened ≡ set was.opened session next
     → IsOpened past session plan bound (body.Opened 0 seen (get_or was.opened session 0)) (HoldsViews now t)
@@ -130,8 +129,8 @@ opened_is was now past session bound next version plan t rows opening seen live 
     let counts : List ℕ = was.opened in
     let number : get_or counts session 0 ≡ opened_count past session = h.0.opened session lt in
     let w : HeldView = opened_view session (opened_count past session) plan bound in
-    let its : StandsFlat rows (side_of plan w.opening t) = stands w.opening in
-    let shows_rows : seen ≡ shown past w = shows ∙ shows_flat rows (side_of plan w.opening t) its (table_keys t version past table) ∙ sym (table_view t version past table w) in
+    let its : StandsLive rows (side_of plan w.opening t) = subst (λ o. StandsLive rows (side_of plan o t)) opens stands in
+    let shows_rows : seen ≡ shown past w = shows ∙ shows_live rows (side_of plan w.opening t) its (table_keys t version past table) ∙ sym (table_view t version past table w) in
     let raised : next ≡ opened_count past session + 1 = omega (arith, next_is, number, times_le (is_opened_in session) past) in
     let entry : ℕ → LiveView → View = λ k l. record { session = session; number = k; state = Live l } in
     let base : ℕ → LiveView = λ k. fresh_live bound (record { version = k; edit = 0 }) rows opening in

@@ -16,7 +16,7 @@ use Rattle.view_spec.specs.Views.{Side, placed, view}
 use Rattle.view_spec.specs.declared.placed.PlacedRow.{PlacedRow}
 use Rattle.view_spec.proofs.TouchLaws.{rows_of}
 use Rattle.view_kept.specs.Steps.{side_of, touched_between}
-use Rattle.flat_live.specs.Flat.{StandsFlat, shows_flat}
+use Rattle.live_rows.specs.Live.{StandsLive, shows_live}
 use Rattle.delta_core.specs.Deltas.{marked}
 use Rattle.delta_core.specs.DirtySets.{DirtyData, dirty_of, joined}
 use Rattle.delta_core.specs.KeySets.{with_keys}
@@ -25,7 +25,7 @@ use Rattle.delta_core.specs.declared.delta.Mark.{Mark}
 use Rattle.delta_core.proofs.KeySetLemmas.{beside-with_keys, no_keys_ascend, with_keys-ascends}
 use Rattle.hub_spec.specs.Past.{PastStep}
 use Rattle.hub_spec.specs.Bases.{base_or_none, dirty, head_dirty, header_differs, is_base, placed_by, placed_in, shown_by, shown_in}
-use Rattle.hub_spec.specs.HeldViews.{HeldView, held_view, side}
+use Rattle.hub_spec.specs.HeldViews.{HeldView, held_view}
 use Rattle.hub_spec.proofs.Folding.{agree_since, placed_at_base, rows_at_base, rows_placed}
 use Rattle.hub_views.specs.Keeping.{live_at}
 use Rattle.hub_views.specs.Live.{LiveData, live_data}
@@ -115,7 +115,7 @@ joined_is past d s n bound edit a b live other is =
 pub brought_is : (past : List PastStep) (d : PastStep) (v : HeldView) (was now : TableData) (before after : ℕ) (changes : List RowChange) (old live : LiveView)
     → HoldsTable was before past → HoldsTable now after (d ∷ past) → AreSteps was changes now
     → held_view past v.session v.number ≡ Some v → (w : HeldView) → held_view (d ∷ past) v.session v.number ≡ Some w → w.plan ≡ v.plan → w.opening ≡ v.opening
-    → is_base v.session v.number d ≡ false → StandsFlat old.rows (side_of v.plan v.opening was)
+    → is_base v.session v.number d ≡ false → StandsLive old.rows (side_of v.plan v.opening was)
     → live_data old ≡ live_at past v.session v.number v.bound v.edit → IsBrought changes now old live
     → live_data live ≡ live_at (d ∷ past) v.session v.number v.bound v.edit
 brought_is past d v was now before after changes old live table table_now steps held w held_now plans openings other stands is brought =
@@ -136,7 +136,7 @@ brought_is past d v was now before after changes old live table table_now steps 
       places_now = ap (placed_by (d ∷ past)) held_now ∙ table_placed now after (d ∷ past) table_now w ∙ ap placed same;
       bound = brought.bound ∙ ap (λ (x : LiveData). x.bound) is;
       edit = brought.edit ∙ ap (λ (x : LiveData). x.edit) is;
-      shown = shows_flat live.rows b (brought.stands a stands step) (table_keys now after (d ∷ past) table_now);
+      shown = shows_live live.rows b (brought.stands a stands step) (table_keys now after (d ∷ past) table_now);
       base = brought.base ∙ ap (λ (x : LiveData). x.base) is;
       dirty = brought.dirty a keys (head_dirty past s n) stands step was_dirty
           ∙ ap (λ k. dirty_of k (joined keys (touched_between a b)) (head_dirty past s n || head_touched a b)) bounds;

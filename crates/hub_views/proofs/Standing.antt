@@ -18,7 +18,7 @@ use Rattle.row_batch.specs.Batches.{Store}
 use Rattle.table_core.specs.Tables.{IsStill, TableData}
 use Rattle.view_spec.specs.Views.{Side}
 use Rattle.view_kept.specs.Steps.{side_of}
-use Rattle.flat_live.specs.Flat.{StandsFlat}
+use Rattle.live_rows.specs.Live.{StandsLive}
 use Rattle.hub_spec.specs.Past.{PastStep}
 
 cons_parts : {X : Type 0} (x y : X) (xs ys : List X) → x ∷ xs ≡ y ∷ ys → (x ≡ y) × (xs ≡ ys)
@@ -121,7 +121,7 @@ stands_still was now v (Live live) still h =
     let with_parts : List Column → Store → Side = λ columns store. record { columns = columns; plan = v.plan; opening = v.opening; pairs = store.pairs } in
     let same : side_of v.plan v.opening now ≡ side_of v.plan v.opening was =
     ap (λ (s : SchemaData). with_parts s.columns now.store) still.schema ∙ ap (with_parts was.schema.columns) still.store in
-    record { rows = subst (StandsFlat live.rows) (sym same) h.rows; opening = h.opening }
+    record { rows = subst (StandsLive live.rows) (sym same) h.rows; opening = h.opening }
 
 all_stand_still : (was now : TableData) (us : List View) (vs : List HeldView) → IsStill was now → AllZip (Stands was) us vs → AllZip (Stands now) us vs
 all_stand_still was now [] [] still h = tt

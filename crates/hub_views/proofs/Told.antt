@@ -34,7 +34,7 @@ use Rattle.hub_views.specs.declared.live.LiveView.{LiveView}
 use Rattle.hub_views.specs.declared.view.View.{View}
 use Rattle.hub_views.specs.declared.views.Views.{Views}
 use Rattle.hub_views.proofs.Asking.{asked_refused, close_plain, count_is, rows_give, rows_plain, take_gives, take_stays}
-use Rattle.hub_views.proofs.FlatPlans.{not_wanted}
+use Rattle.hub_views.proofs.AskedPlans.{not_wanted}
 use Rattle.hub_views.proofs.KeptViews.{filtered_views, views_stay}
 use Rattle.hub_views.proofs.Lists.{filter-map, find-map}
 use Rattle.hub_views.proofs.Opening.{open_plain}

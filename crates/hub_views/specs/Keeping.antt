@@ -22,7 +22,7 @@ use Rattle.hub_spec.specs.Rows.{schema_or_none}
 use Rattle.plan_types.specs.declared.plan.Plan.{Plan}
 use Rattle.table_core.specs.Tables.{TableData}
 use Rattle.view_kept.specs.Steps.{side_of}
-use Rattle.flat_live.specs.Flat.{StandsFlat}
+use Rattle.live_rows.specs.Live.{StandsLive}
 use Rattle.hub_views.specs.Live.{LiveData, StateData, ViewData, live_now, lost_now, view_data}
 use Rattle.hub_views.specs.declared.live.LiveView.{LiveView}
 use Rattle.hub_views.specs.declared.view.View.{View}
@@ -93,7 +93,7 @@ pub record Keeps (kept : List ViewData) (counts : List ℕ) (past : List PastSte
 
 -- the rows of a view that can be asked stand for what its plan makes of the table's
 pub record IsLive (t : TableData) (h : HeldView) (live : LiveView) : Type 0 where
-  pub rows : StandsFlat live.rows (side_of h.plan h.opening t)
+  pub rows : StandsLive live.rows (side_of h.plan h.opening t)
   pub opening : live.opening ≡ h.opening
 
 abbrev pub StandsIn : TableData → HeldView → ViewState → Type 0

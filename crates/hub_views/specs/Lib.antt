@@ -1,4 +1,4 @@
-pub mod Editing
+pub mod Changing
 pub mod Keeping
 pub mod Live
 pub mod Refreshing

@@ -6,8 +6,8 @@ use Rattle.delta_core.specs.Deltas.{delta_of}
 use Rattle.delta_core.specs.DirtySets.{DirtyData, dirty_of}
 use Rattle.delta_core.specs.declared.delta.Mark.{Mark}
 use Rattle.delta_core.specs.declared.touched.Touch.{Touch}
-use Rattle.flat_live.specs.Flat.{flat_shown}
-use Rattle.flat_live.specs.declared.live.FlatLive.{FlatLive}
+use Rattle.live_rows.specs.Live.{live_shown}
+use Rattle.live_rows.specs.declared.live.LiveRows.{LiveRows}
 use Rattle.frame_types.specs.declared.reply.Body.{Body}
 use Rattle.frame_types.specs.declared.reply.Body.TheVariants as body
 use Rattle.view_spec.specs.Openings.{Opening}
@@ -35,7 +35,7 @@ pub record ViewData : Type 0 where
   pub state : StateData
 
 abbrev pub live_data : LiveView → LiveData
-live_data live = record { bound = live.bound; edit = live.edit; shown = flat_shown live.rows; base = live.base; dirty = live.dirty }
+live_data live = record { bound = live.bound; edit = live.edit; shown = live_shown live.rows; base = live.base; dirty = live.dirty }
 
 abbrev pub state_data : ViewState → StateData
 state_data (Live live) = live_now (live_data live)
@@ -47,7 +47,7 @@ view_data v = record { session = v.session; number = v.number; state = state_dat
 -- ---- what it tells
 
 -- a view of these rows whose base is this mark
-abbrev pub fresh_live : ℕ → Mark → FlatLive → Opening → LiveView
+abbrev pub fresh_live : ℕ → Mark → LiveRows → Opening → LiveView
 fresh_live bound base rows opening = record { bound = bound; edit = base.edit; rows = rows; opening = opening; base = base; dirty = dirty_of bound [] false }
 
 -- the delta from its base to a mark where at most so many keys as its bound were touched, and else all that it shows

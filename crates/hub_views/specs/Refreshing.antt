@@ -13,7 +13,7 @@ use Rattle.view_spec.specs.Openings.{Opening}
 use Rattle.view_spec.specs.Touching.{head_touched}
 use Rattle.view_spec.specs.Views.{Side}
 use Rattle.view_kept.specs.Steps.{IsStep, side_at, side_of, touched_between}
-use Rattle.flat_live.specs.Flat.{StandsFlat}
+use Rattle.live_rows.specs.Live.{StandsLive}
 use Rattle.view_types.specs.declared.key.ViewKey.{ViewKey}
 use Rattle.hub_spec.specs.Past.{PastStep}
 use Rattle.hub_spec.specs.HeldViews.{is_live}
@@ -37,8 +37,8 @@ pub record IsBrought (changes : List RowChange) (now : TableData) (was after : L
   pub edit : after.edit ≡ was.edit
   pub base : after.base ≡ was.base
   pub opening : after.opening ≡ was.opening
-  pub stands : (s : Side) → StandsFlat was.rows s → IsStep s changes now → StandsFlat after.rows (side_at s now)
-  pub dirty : (s : Side) (keys : List (ViewKey × Touch)) (header : Bool) → StandsFlat was.rows s → IsStep s changes now → was.dirty ≡ dirty_of was.dirty.bound keys header
+  pub stands : (s : Side) → StandsLive was.rows s → IsStep s changes now → StandsLive after.rows (side_at s now)
+  pub dirty : (s : Side) (keys : List (ViewKey × Touch)) (header : Bool) → StandsLive was.rows s → IsStep s changes now → was.dirty ≡ dirty_of was.dirty.bound keys header
       → after.dirty ≡ dirty_of was.dirty.bound (joined keys (touched_between s (side_at s now))) (header || head_touched s (side_at s now))
 
 -- a view that could be asked is brought there or is lost at that version; one that was lost stays so

@@ -1,12 +1,12 @@
 ghost use Rattle.std.specs.Prelude.{◌≡◌, IfOk, Some, option_map};
-ghost use Rattle.cell_core.specs.RawData.{raw_list, raw_map};
-ghost use Rattle.cell_core.specs.RawViews.{list_view, map_view, raw_view};
+ghost use Rattle.cell_core.specs.RawData.{raw_list};
+ghost use Rattle.cell_core.specs.RawViews.{list_view, raw_view};
 ghost use Rattle.plan_json.specs.Plans.{raw_plan_view};
 ghost use Rattle.plan_check.specs.Plans.{checked};
-ghost use Rattle.hub_spec.specs.Plans.{is_filled_list, is_filled_object, is_unbuilt, is_unbuilt_in, plan_asked, plan_checked};
+ghost use Rattle.hub_spec.specs.Plans.{is_filled_list, is_unbuilt, plan_asked, plan_checked};
 
 use crate::refused;
-use cell_core::{Memory, Raw, RawList, RawMap, Schema};
+use cell_core::{Memory, Raw, RawList, Schema};
 use frame_types::Refusal;
 use plan_check::{PlanRefused, check};
 use plan_json::{PlanFormRefused, RawPlan, plan_member, read_plan};
@@ -42,22 +42,14 @@ fn checked(alloc: Global, schema: &Schema, raw: &RawPlan) -> Result<Result<Plan,
     }
 }
 
-/// Whether a plan has groups, splits or aggregates.
+/// Whether a plan has splits.
 pub fn is_unbuilt(plan: &Raw) -> bool
     ensures { result ≡ is_unbuilt (raw_view plan.now) }
 {
     match plan {
-        Raw::Map(members) => is_unbuilt_in(members),
+        Raw::Map(members) => is_filled_list(plan_member(members, "split_by")),
         _ => false,
     }
-}
-
-fn is_unbuilt_in(members: &RawMap) -> bool
-    ensures { result ≡ is_unbuilt_in (map_view members.now) }
-{
-    is_filled_list(plan_member(members, "group_by"))
-        || is_filled_list(plan_member(members, "split_by"))
-        || is_filled_object(plan_member(members, "aggregates"))
 }
 
 fn is_filled_list(value: Option<&Raw>) -> bool
@@ -74,20 +66,4 @@ fn has_items(list: &RawList) -> bool
     ensures { result ≡ is_filled_list (Some (raw_list (list_view list.now))) }
 {
     !list.as_slice().is_empty()
-}
-
-fn is_filled_object(value: Option<&Raw>) -> bool
-    ensures { result ≡ is_filled_object (option_map (λ v. raw_view v.now) value.entry) }
-{
-    match value {
-        Some(Raw::Map(map)) => has_members(map),
-        Some(_) => true,
-        None => false,
-    }
-}
-
-fn has_members(map: &RawMap) -> bool
-    ensures { result ≡ is_filled_object (Some (raw_map (map_view map.now))) }
-{
-    !map.entries().is_empty()
 }

@@ -6,6 +6,7 @@ use crate::views::MAX_VIEWS;
 use cell_core::Numbers;
 use frame_types::{Cause, Refusal};
 use plan_json::{PlanCause, PlanPart};
+use view_shape::MAX_SINGLES;
 
 fn refused(code: u8, cause: Cause, at: Numbers) -> Refusal
     ensures { result ≡ record { code = code; cause = cause; at = at } }
@@ -13,7 +14,7 @@ fn refused(code: u8, cause: Cause, at: Numbers) -> Refusal
     Refusal { code, cause, at }
 }
 
-/// Groups, splits and aggregates aren't built yet.
+/// Splits aren't built yet.
 pub fn unbuilt() -> Refusal
     ensures { result ≡ refusals.bad_frame cause.Unbuilt }
 {
@@ -53,6 +54,27 @@ pub fn view_lost(version: u64) -> Refusal
     ensures { result ≡ refusals.view_lost version }
 {
     refused(16, Cause::ViewLost, Numbers::One(version))
+}
+
+/// No shown group row has that path.
+pub fn no_row() -> Refusal
+    ensures { result ≡ refusals.no_row }
+{
+    refused(17, Cause::NoRow, Numbers::Zero)
+}
+
+/// The path is as long as the view's group columns.
+pub fn not_a_group() -> Refusal
+    ensures { result ≡ refusals.not_a_group }
+{
+    refused(18, Cause::NotAGroup, Numbers::Zero)
+}
+
+/// 4,096 other groups of the view were opened or closed one by one.
+pub fn too_many_open() -> Refusal
+    ensures { result ≡ refusals.too_many_open }
+{
+    refused(19, Cause::TooManyOpen, Numbers::One(MAX_SINGLES as u64))
 }
 
 /// The window ends before it begins.

@@ -1,13 +1,12 @@
 ghost use Rattle.std.specs.Prelude.{◌≡◌, false};
-ghost use Rattle.cell_core.specs.RawViews.{raw_view};
-ghost use Rattle.hub_spec.specs.Plans.{is_unbuilt, plan_asked};
-ghost use Rattle.hub_views.specs.Editing.{AnswersEditOf};
+ghost use Rattle.hub_views.specs.Changing.{AnswersChangeOf, effect_of, is_unbuilt_change};
 ghost use Rattle.hub_views.specs.Live.{rebased, rebased_at};
 ghost use Rattle.hub_views.specs.Refreshing.{IsRefreshed, is_loss};
 
+use crate::change::Change;
 use crate::live::LiveView;
 use crate::refused;
-use cell_core::{Raw, Steps};
+use cell_core::Steps;
 use delta_core::Mark;
 use frame_types::Refusal;
 use row_batch::RowChange;
@@ -42,20 +41,20 @@ impl View {
         }
     }
 
-    /// Changes its plan to the one that a value stands for, where it can be asked, and answers how many edits there were
-    /// by then. After a refusal the view is as before.
-    pub fn edit<L: Ledger>(
+    /// Makes a change of it, where it can be asked, and answers how many edits there were by then. After a refusal the view
+    /// is as before.
+    pub fn change<L: Ledger>(
         &mut self,
         alloc: Global,
-        plan: &Raw,
+        change: &Change,
         table: &Table,
         steps: &mut Steps<L>,
     ) -> Result<u64, Refusal>
-        requires { is_unbuilt (raw_view plan.now) ≡ false }
-        ensures { AnswersEditOf (plan_asked table.now.schema (raw_view plan.now)) table.now self.old self.new result }
+        requires { is_unbuilt_change change.now ≡ false }
+        ensures { AnswersChangeOf (effect_of table.now.schema change.now) table.now self.old self.new result }
     {
         match &mut self.state {
-            ViewState::Live(live) => live.edit(alloc, plan, table, steps),
+            ViewState::Live(live) => live.change(alloc, change, table, steps),
             ViewState::Lost(version) => Err(refused::view_lost(*version)),
         }
     }

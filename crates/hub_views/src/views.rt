@@ -3,31 +3,33 @@ ghost use Rattle.cell_core.specs.RawViews.{raw_view};
 ghost use Rattle.frame_types.specs.Asks.{Ask};
 ghost use Rattle.frame_types.specs.Asks as ask;
 ghost use Rattle.frame_types.specs.Limits.{sessions};
-ghost use Rattle.flat_show.specs.Plans.{IsFlatPlan};
+ghost use Rattle.plain_kept.specs.Plans.{IsUnsplitPlan};
 ghost use Rattle.hub_spec.specs.Giving.{AfterEach, AnswersAfter, IsOfViews, body_in, with_step};
 ghost use Rattle.hub_spec.specs.Ports as ports;
+ghost use Rattle.hub_views.specs.Changing.{asked_by};
 ghost use Rattle.hub_views.specs.Keeping.{HasNoViews, HoldsViews, IsOpened, asked_at};
 ghost use Rattle.hub_views.specs.Refreshing.{AreLosses, AreSteps, HasRoom, applied_body};
 ghost use Rattle.hub_views.specs.Tables.{HoldsTable};
 ghost use Rattle.table_core.specs.Tables.{TableData};
 
+use crate::change::Change;
+use crate::groups::first_opening;
 use crate::list::{count_views, drop_view, drop_views, find_view, place_of, rebase, refresh_each};
 use crate::live::LiveView;
-use crate::plans::{is_unbuilt, plan_asked};
+use crate::plans::plan_asked;
 use crate::refused;
 use crate::showing::{show_all, show_window};
 use crate::view::{View, ViewState};
 use cell_core::{Listed, Memory, Raw, Steps};
 use delta_core::Mark;
-use flat_live::build;
 use frame_types::{Body, Lost, Refusal, SESSIONS};
+use live_rows::build;
 use plan_types::Plan;
 use row_batch::RowChange;
 use std::alloc::Global;
 use std::sync::ledger::Ledger;
 use table_core::Table;
 use view_kept::KeptView;
-use view_shape::OpenState;
 
 /// The most views that are held, over all sessions.
 pub const MAX_VIEWS: usize = 16;
@@ -100,16 +102,16 @@ impl Views {
         steps: &mut Steps<L>,
     ) -> Result<Body, Memory>
         requires session { session < sessions }
-        requires flat { IsFlatPlan table.now.schema.columns plan }
+        requires fits { IsUnsplitPlan table.now.schema.columns plan }
         ensures ok { AfterEach (HoldsViews self.old table.now) (λ past. HoldsTable table.now version past → length past < 2 ^ 53
             → IfOk result (λ answer. IsOpened past session plan bound answer (HoldsViews self.new table.now))) }
         ensures about { (at : ℕ) → IfOk result (IsOfViews at) }
         ensures err { AfterEach (HoldsViews self.old table.now) (λ past. OnErr result (HoldsViews self.new table.now past)) }
     {
-        let rows = build(self.alloc, plan, table, steps)?;
+        let opening = first_opening(self.alloc, &plan);
+        let rows = build(self.alloc, plan, &opening, table, steps)?;
         let shown = show_all(self.alloc, &rows)?;
         let edit = 0;
-        let opening = OpenState::new(self.alloc, 0);
         let live = LiveView::new(self.alloc, rows, opening, Mark { version, edit }, bound);
         let number = self.opened[session as usize];
         self.items.push(View {
@@ -125,26 +127,26 @@ impl Views {
         })
     }
 
-    /// Changes the plan of a view, which keeps its base. `steps` counts the visits of rows.
-    pub fn edit<L: Ledger>(
+    /// Makes a change of a view, which keeps its base. `steps` counts the visits of rows.
+    pub fn change<L: Ledger>(
         &mut self,
         session: u32,
         view: u64,
-        plan: &Raw,
+        change: &Change,
         table: &Table,
         steps: &mut Steps<L>,
     ) -> Result<Body, Refusal>
         ensures gives { (version : ℕ) → AnswersAfter (λ past. HoldsViews self.old table.now past × HoldsTable table.now version past)
-            session (ask.edit_view view (raw_view plan.now)) (body_in result) (HoldsViews self.new table.now) }
+            session (asked_by view change.now) (body_in result) (HoldsViews self.new table.now) }
         ensures about { (at : ℕ) → IsOfViews at (body_in result) }
     {
-        if is_unbuilt(plan) {
+        if change.is_unbuilt() {
             return Err(refused::unbuilt());
         }
         let Some(place) = place_of(self.items.as_slice(), session, view) else {
             return Err(refused::no_view());
         };
-        let edit = self.items[place].edit(self.alloc, plan, table, steps)?;
+        let edit = self.items[place].change(self.alloc, change, table, steps)?;
         Ok(Body::Edited { edit, view })
     }
 

@@ -1,5 +1,5 @@
-use Rattle.std.proofs.Common.{◌≡◌, ◌++◌, List, get_or, set, length, refl, sym, ap, ◌∙◌, arith}
-use Rattle.hub_views.proofs.Refreshes.{IsSoFar, loss, one_more, noted_loss, no_loss}
+use Rattle.std.proofs.Common.{◌≡◌, ◌++◌, get_or, sym, ◌∙◌, arith}
+use Rattle.hub_views.proofs.Refreshes.{one_more, noted_loss, no_loss}
 use Rattle.hub_views.proofs.list.refresh_each.Goals as goal
 use Rattle.hub_views.proofs.list.refresh_each.Goals.{then-refresh, else-refresh}
 

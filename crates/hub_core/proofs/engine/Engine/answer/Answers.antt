@@ -51,11 +51,16 @@ returns-in-Open-clause-gives g c = λ past h few.
     (c.open.ensures.gives past (h.views, h.table) few))
 
 pub returns-in-Edit-clause-gives : goal.returns-in-Edit-clause-gives
-returns-in-Edit-clause-gives g c = λ past h few.
-    let e = c.args.self.now in
-    rw c.in-Edit.is
-    (views_give e.table e.version e.ports e.views _ past c.args.session 0 (ask.edit_view c.in-Edit.view (raw_view c.in-Edit.plan)) _ h (c.edit.ensures.about 0)
-    (c.edit.ensures.gives e.version past (h.views, h.table) few))
+returns-in-Edit-clause-gives g c = λ past h few. rw c.in-Edit.is (c.change.ensures.gives past h few)
+
+pub returns-in-Depth-clause-gives : goal.returns-in-Depth-clause-gives
+returns-in-Depth-clause-gives g c = λ past h few. rw c.in-Depth.is (c.change-in-Depth.ensures.gives past h few)
+
+pub returns-in-Expand-clause-gives : goal.returns-in-Expand-clause-gives
+returns-in-Expand-clause-gives g c = λ past h few. rw c.in-Expand.is (c.change-in-Expand.ensures.gives past h few)
+
+pub returns-in-Collapse-clause-gives : goal.returns-in-Collapse-clause-gives
+returns-in-Collapse-clause-gives g c = λ past h few. rw c.in-Collapse.is (c.change-in-Collapse.ensures.gives past h few)
 
 pub returns-in-Take-clause-gives : goal.returns-in-Take-clause-gives
 returns-in-Take-clause-gives g c = λ past h few.
@@ -89,7 +94,16 @@ pub returns-in-Open-clause-ends : goal.returns-in-Open-clause-ends
 returns-in-Open-clause-ends g c = let e = c.args.self.now in views_end e.version _ (c.open.ensures.about e.version)
 
 pub returns-in-Edit-clause-ends : goal.returns-in-Edit-clause-ends
-returns-in-Edit-clause-ends g c = let e = c.args.self.now in views_end e.version _ (c.edit.ensures.about e.version)
+returns-in-Edit-clause-ends g c = c.change.ensures.ends
+
+pub returns-in-Depth-clause-ends : goal.returns-in-Depth-clause-ends
+returns-in-Depth-clause-ends g c = c.change-in-Depth.ensures.ends
+
+pub returns-in-Expand-clause-ends : goal.returns-in-Expand-clause-ends
+returns-in-Expand-clause-ends g c = c.change-in-Expand.ensures.ends
+
+pub returns-in-Collapse-clause-ends : goal.returns-in-Collapse-clause-ends
+returns-in-Collapse-clause-ends g c = c.change-in-Collapse.ensures.ends
 
 pub returns-in-Take-clause-ends : goal.returns-in-Take-clause-ends
 returns-in-Take-clause-ends g c = let e = c.args.self.now in views_end e.version _ c.take.ensures.about

@@ -1,4 +1,4 @@
-use Rattle.std.proofs.Common.{◌≡◌, refl, sym, ap, ◌∙◌, find, not}
+use Rattle.std.proofs.Common.{◌≡◌, refl, sym, ap, ◌∙◌, find}
 use Rattle.std.specs.Option.{option_copied}
 use Rattle.frame_types.specs.Refusals.{no_view}
 use Rattle.hub_views.specs.Keeping.{is_kept}

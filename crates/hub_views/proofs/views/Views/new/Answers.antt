@@ -1,9 +1,8 @@
 use Rattle.std.proofs.Common.{[], map, refl, sym, ap, ◌∙◌, subst}
-use Rattle.std.specs.List.{AllZip}
 use Rattle.std.proofs.lemmas.List.{get_or-replicate}
 use Rattle.frame_types.specs.Limits.{sessions}
 use Rattle.hub_spec.specs.HeldViews.{opened_count}
-use Rattle.hub_views.specs.Keeping.{AreNumbered, HoldsViews, Stands, kept_view}
+use Rattle.hub_views.specs.Keeping.{AreNumbered, HoldsViews, kept_view}
 use Rattle.hub_views.specs.Live.{view_data}
 use Rattle.hub_views.proofs.views.Views.new.Goals as goal
 

@@ -1,10 +1,10 @@
-use Rattle.std.proofs.Common.{◌≡◌, Ok, Err, refl, sym, ap, ◌∙◌, arith}
+use Rattle.std.proofs.Common.{◌≡◌, refl, sym, ap, ◌∙◌, arith}
 use Rattle.std.proofs.lemmas.Bool.{le-leb, lt-leb}
 use Rattle.cell_core.specs.RawViews.{raw_view}
 use Rattle.cell_core.specs.Schemas.{SchemaData}
 use Rattle.frame_types.specs.Asks as ask
 use Rattle.hub_spec.specs.Plans.{plan_asked}
-use Rattle.hub_views.proofs.FlatPlans.{flat_asked}
+use Rattle.hub_views.proofs.AskedPlans.{unsplit_asked}
 use Rattle.hub_views.proofs.Told.{open_is_full, opened_gives, plan_is_refused, views_are_wanted}
 use Rattle.hub_views.proofs.views.Views.open.Goals as goal
 
@@ -26,10 +26,10 @@ returns-then-len-ge-MAX_VIEWS-clause-gives g c = λ past h few.
     (open_is_full a.self.now a.table.now past a.session a.bound a.version (raw_view a.plan.now) c.in-Ok-Ok.plan h.0 h.1
     (ap (λ (s : SchemaData). plan_asked s (raw_view a.plan.now)) (sym c.schema.ensures) ∙ sym c.in-Ok-Ok.ensures ∙ c.in-Ok-Ok.field-0-is) (le-leb 16 _ (omega arith)))
 
-pub add-requires-clause-flat : goal.add-requires-clause-flat
-add-requires-clause-flat g c =
+pub add-requires-clause-fits : goal.add-requires-clause-fits
+add-requires-clause-fits g c =
     let a = c.args in
-    flat_asked a.table.now.schema (raw_view a.plan.now) c.in-Ok-Ok.plan (sym c.in-Ok-Ok.field-0-is ∙ c.in-Ok-Ok.ensures ∙ ap (λ (s : SchemaData). plan_asked s (raw_view a.plan.now)) c.schema.ensures)
+    unsplit_asked a.table.now.schema (raw_view a.plan.now) c.in-Ok-Ok.plan (sym c.in-Ok-Ok.field-0-is ∙ c.in-Ok-Ok.ensures ∙ ap (λ (s : SchemaData). plan_asked s (raw_view a.plan.now)) c.schema.ensures)
 
 pub returns-in-Ok-clause-gives : goal.returns-in-Ok-clause-gives
 returns-in-Ok-clause-gives g c = λ past h few.

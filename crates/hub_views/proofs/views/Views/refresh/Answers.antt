@@ -1,4 +1,4 @@
-use Rattle.std.proofs.Common.{◌≡◌, ◌++◌, List, IsPermutation, ℕ, length, refl, sym, ap, ◌∙◌, subst, arith}
+use Rattle.std.proofs.Common.{◌≡◌, ◌++◌, List, IsPermutation, ℕ, length, refl, ap, ◌∙◌, subst, arith}
 use Rattle.hub_views.specs.Refreshing.{HasRoom, losses}
 use Rattle.hub_views.proofs.Losses.{are_losses, refreshed_views}
 use Rattle.hub_views.proofs.views.Views.refresh.Goals as goal

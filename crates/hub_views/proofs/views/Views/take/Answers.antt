@@ -1,9 +1,6 @@
-use Rattle.std.proofs.Common.{◌≡◌, refl, ap, ◌∙◌, map}
+use Rattle.std.proofs.Common.{◌≡◌, refl, ◌∙◌}
 use Rattle.frame_types.specs.Asks as ask
 use Rattle.hub_spec.proofs.Giving.{err_body}
-use Rattle.hub_views.specs.Keeping.{HoldsViews}
-use Rattle.hub_views.specs.Live.{live_data, view_data}
-use Rattle.hub_views.proofs.Asking.{take_gives}
 use Rattle.hub_views.proofs.Told.{asked_is_refused, taken_gives, views_are_wanted}
 use Rattle.hub_views.proofs.views.Views.take.Goals as goal
 
