@@ -35,9 +35,9 @@ use Rattle.view_spec.specs.Views.{Side, by_place, placed, view}
 use Rattle.view_spec.proofs.FlatLaws.{header-unsplit}
 use Rattle.view_spec.proofs.LiveLaws.{placed-IsPermutation, placed-unique}
 use Rattle.view_spec.proofs.ViewLaws.{IsDistinct-map, found, same_keys}
-use Rattle.flat_show.specs.Plans.{IsFlatPlan}
 use Rattle.live_list.specs.Live.{IsLive, live_key}
 use Rattle.key_map.specs.Keyed.{same_by}
+use Rattle.flat_live.specs.Plans.{IsLivePlan}
 use Rattle.flat_live.specs.Rows.{FlatRow, as_placed, changed_keys, settled, told}
 use Rattle.flat_live.proofs.Acts.{settled-other}
 use Rattle.view_spec.specs.Entries.{group_entry}
@@ -150,10 +150,10 @@ header_at s table none columns =
 pub head_untouched : (a b : Side) → (view a).header ≡ (view b).header → false ≡ head_touched a b
 head_untouched a b same = sym (ap (λ h. not (same_header (view a).header h)) (sym same) ∙ ap not (same_header_itself (view a).header))
 
-pub steps_of : (s : Side) (plan : Plan) (header : List HeaderColumn) (first new : List FlatRow) (cs : List RowChange) (table : TableData) → plan ≡ s.plan → header ≡ (view s).header → IsFlatPlan s.columns s.plan
+pub steps_of : (s : Side) (plan : Plan) (header : List HeaderColumn) (first new : List FlatRow) (cs : List RowChange) (table : TableData) → plan ≡ s.plan → header ≡ (view s).header → IsLivePlan s.columns s.plan
     → map (as_placed header) first ≡ placed s → IsStep s cs table → IsLive new → ((k : ViewKey) → at_key live_key k new ≡ settled plan first cs k) → Steps s header first new cs
 steps_of s plan header first new cs table same head fits shown step live rows = record {
-  flat = fits.flat;
+  flat = fits.flat.flat;
   none = fits.whole;
   head = head ∙ header-unsplit s.columns s.plan (kept s.plan s.pairs) fits.whole;
   keys = step.keys;

@@ -9,8 +9,8 @@ use Rattle.table_core.specs.Tables.{TableData}
 use Rattle.view_types.specs.declared.shown.Shown.{Shown}
 use Rattle.view_spec.specs.Laws.{HasKeys}
 use Rattle.view_spec.specs.Views.{Side, placed, view}
-use Rattle.flat_show.specs.Plans.{IsFlatPlan}
 use Rattle.view_kept.specs.Parts.{shown_by_parts}
+use Rattle.flat_live.specs.Plans.{IsLivePlan}
 use Rattle.flat_live.specs.Rows.{FlatRow, as_placed, shown_row}
 use Rattle.flat_live.specs.declared.live.FlatLive.{FlatLive}
 
@@ -20,12 +20,12 @@ flat_shown v = record { header = v.header; rows = map (shown_row v.header) v.row
 -- the plan is the side's, and what is shown of the header and the rows is its view
 pub record StandsFlat (v : FlatLive) (s : Side) : Type 0 where
   pub plan : v.plan ≡ s.plan
-  pub fits : IsFlatPlan s.columns s.plan
+  pub fits : IsLivePlan s.columns s.plan
   pub header : v.header ≡ (view s).header
   pub rows : map (as_placed v.header) v.rows ≡ placed s
 
 abbrev pub fits_flat : FlatLive → Plan → TableData → Type 0
-fits_flat v plan table = IsFlatPlan table.schema.columns plan
+fits_flat v plan table = IsLivePlan table.schema.columns plan
 
 -- a step counts no visit
 abbrev pub counts_flat : FlatLive → List RowChange → TableData → ℕ → ℕ → Type 0

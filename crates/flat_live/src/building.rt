@@ -1,19 +1,19 @@
 ghost use Rattle.std.specs.Prelude.{◌≡◌, ◌+◌, ◌<◌, IfOk, OnOk, drop, length};
 ghost use Rattle.view_spec.specs.Openings.{Opening};
 ghost use Rattle.view_kept.specs.Steps.{side_of};
-ghost use Rattle.flat_show.specs.Plans.{IsFlatPlan};
 ghost use Rattle.flat_live.specs.Flat.{StandsFlat};
+ghost use Rattle.flat_live.specs.Plans.{IsLivePlan};
 ghost use Rattle.flat_live.specs.Rows.{IsKeptOf};
 
 use crate::keep::keep;
 use crate::live::FlatLive;
 use cell_core::{Memory, Row, Steps};
-use flat_show::header_of;
 use live_list::LiveList;
 use plan_types::Plan;
 use std::alloc::Global;
 use std::sync::ledger::Ledger;
 use table_core::Table;
+use view_columns::columns_under;
 
 /// The view of the table's rows by a flat plan without splits. `steps` counts the visits of rows.
 ///
@@ -24,11 +24,11 @@ pub fn build<L: Ledger>(
     table: &Table,
     steps: &mut Steps<L>,
 ) -> Result<FlatLive, Memory>
-    requires { IsFlatPlan table.now.schema.columns plan }
+    requires { IsLivePlan table.now.schema.columns plan }
     ensures { (opening : Opening) → IfOk result (λ view. StandsFlat view (side_of plan opening table.now)) }
 {
     let _size = table.len();
-    let header = header_of(alloc, table.schema(), &plan)?;
+    let header = columns_under(alloc, table.schema().columns(), &plan, &[])?;
     let rows = all_rows(alloc, &plan, table, steps)?;
     let _count = rows.len();
     Ok(FlatLive { plan, header, rows })

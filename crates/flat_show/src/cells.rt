@@ -1,73 +1,17 @@
-ghost use Rattle.std.specs.Prelude.{◌≡◌, ◌<◌, All, IfOk, OnOk, length, map, [], true};
+ghost use Rattle.std.specs.Prelude.{◌≡◌, [], IfOk, OnOk};
 ghost use Rattle.cell_core.specs.Cells.{value_of};
 ghost use Rattle.row_batch.specs.Batches.{pair_of};
-ghost use Rattle.view_spec.specs.Cells.{cells_of_row, head_at, with_value};
-ghost use Rattle.plan_types.specs.Columns.{all_columns};
-ghost use Rattle.view_spec.specs.Columns.{column_at, is_flat};
+ghost use Rattle.view_spec.specs.Cells.{cells_of_row, text_at, with_columns, with_value};
 ghost use Rattle.view_spec.specs.Filters.{cell_in};
-ghost use Rattle.view_types.specs.Types.{shown_type};
 
-use cell_core::{Cell, CellType, Copies, Listed, Memory, Schema, Text};
+use crate::splits::split_path;
+use cell_core::{Cell, Memory, Schema};
 use plan_types::Plan;
 use std::alloc::Global;
-use view_types::{Header, HeaderColumn, ShownCells, ShownType};
+use view_columns::{column_name, path_text, put_value};
+use view_types::ShownCells;
 
-/// The text and type of each shown column. Want of memory is the only refusal.
-pub fn header_of(alloc: Global, schema: &Schema, plan: &Plan) -> Result<Header, Memory>
-    requires flat { is_flat plan.now ≡ true }
-    requires columns { All (λ i. i < length (all_columns schema.now.columns plan.now.expressions)) plan.now.columns }
-    ensures { IfOk result (λ header. header ≡ map (head_at schema.now.columns plan.now []) plan.now.columns) }
-{
-    let mut header = Vec::new(alloc);
-    for column in plan.columns.as_slice() {
-        header.push(header_column(alloc, schema, plan, *column)?)?;
-    }
-    Ok(Listed::from_vec(header))
-}
-
-fn header_column(
-    alloc: Global,
-    schema: &Schema,
-    plan: &Plan,
-    i: usize,
-) -> Result<HeaderColumn, Memory>
-    requires flat { is_flat plan.now ≡ true }
-    requires within { i < length (all_columns schema.now.columns plan.now.expressions) }
-    ensures { IfOk result (λ column. column ≡ head_at schema.now.columns plan.now [] i) }
-{
-    Ok(HeaderColumn {
-        text: column_name(schema, plan, i).copy(alloc)?,
-        kind: ShownType::of(column_kind(schema, plan, i)),
-    })
-}
-
-/// The name of a column, by its number.
-fn column_name<'a>(schema: &'a Schema, plan: &'a Plan, i: usize) -> &'a Text
-    requires { i < length (all_columns schema.now.columns plan.now.expressions) }
-    ensures { result.now ≡ (column_at schema.now.columns plan.now i).name }
-{
-    let columns = schema.columns();
-    if i < columns.len() {
-        &columns[i].name
-    } else {
-        &plan.expressions.as_slice()[i - columns.len()].name
-    }
-}
-
-/// The type of a column, by its number.
-fn column_kind(schema: &Schema, plan: &Plan, i: usize) -> CellType
-    requires { i < length (all_columns schema.now.columns plan.now.expressions) }
-    ensures { result ≡ (column_at schema.now.columns plan.now i).kind }
-{
-    let columns = schema.columns();
-    if i < columns.len() {
-        columns[i].kind
-    } else {
-        plan.expressions.as_slice()[i - columns.len()].kind
-    }
-}
-
-/// The values of a row under its columns' texts.
+/// The values of a row under its columns' texts, by its own split path alone.
 pub fn shown_cells(
     alloc: Global,
     schema: &Schema,
@@ -75,38 +19,46 @@ pub fn shown_cells(
     key: &Cell,
     row: &[Cell],
 ) -> Result<ShownCells, Memory>
-    requires split { plan.now.split_by ≡ [] }
-    requires columns { All (λ i. i < length (all_columns schema.now.columns plan.now.expressions)) plan.now.columns }
     ensures { IfOk result (λ cells. cells ≡ cells_of_row schema.now.columns plan.now (pair_of key.now row.now)) }
+{
+    let split = split_path(alloc, plan, row)?;
+    cells_under(alloc, schema, plan, split.as_slice(), row)
+}
+
+/// The values of a row under its columns' texts by a split path.
+fn cells_under(
+    alloc: Global,
+    schema: &Schema,
+    plan: &Plan,
+    split: &[Cell],
+    row: &[Cell],
+) -> Result<ShownCells, Memory>
+    ensures { IfOk result (λ cells. cells ≡
+        with_columns schema.now.columns plan.now split.now (λ i. value_of (cell_in row.now i)) plan.now.columns []) }
 {
     let mut cells = ShownCells::new(alloc);
     for column in plan.columns.as_slice() {
-        put_value(
-            alloc,
-            &mut cells,
-            column_name(schema, plan, *column),
-            *column,
-            row,
-        )?;
+        put_column(alloc, schema, plan, split, *column, row, &mut cells)?;
     }
     Ok(cells)
 }
 
-/// Puts the value of a row's cell under a text, and nothing for null.
-fn put_value(
+/// Puts the value of a row's cell under its column's text, and nothing for null.
+fn put_column(
     alloc: Global,
-    cells: &mut ShownCells,
-    name: &Text,
+    schema: &Schema,
+    plan: &Plan,
+    split: &[Cell],
     column: usize,
     row: &[Cell],
+    cells: &mut ShownCells,
 ) -> Result<(), Memory>
-    ensures { OnOk result (cells.new ≡ with_value cells.old name.now (value_of (cell_in row.now column))) }
+    ensures { OnOk result (cells.new ≡ with_value cells.old (text_at schema.now.columns plan.now split.now column)
+        (value_of (cell_in row.now column))) }
 {
     let Some(cell) = row.get(column) else {
         return Ok(());
     };
-    if let Some(value) = cell.value(alloc)? {
-        cells.put(name.copy(alloc)?, value)?;
-    }
-    Ok(())
+    let text = path_text(alloc, split, column_name(schema.columns(), plan, column))?;
+    put_value(alloc, cells, &text, cell.value(alloc)?)
 }

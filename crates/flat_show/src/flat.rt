@@ -1,19 +1,21 @@
-ghost use Rattle.std.specs.Prelude.{◌≡◌, ◌<◌, [], All, IfOk, OnOk, length, map};
+ghost use Rattle.std.specs.Prelude.{◌≡◌, IfOk, OnOk, map};
 ghost use Rattle.std.specs.BTreeMap.{insert_entry};
 ghost use Rattle.plain_data.specs.Distinct.{AreDistinct};
 ghost use Rattle.place_order.specs.Places.{place_order};
 ghost use Rattle.row_batch.specs.Tables.{keys_of_rows};
-ghost use Rattle.plan_types.specs.Columns.{all_columns};
+ghost use Rattle.view_spec.specs.Cells.{header_of as header_under};
+ghost use Rattle.view_spec.specs.Members.{splits};
 ghost use Rattle.view_spec.specs.Openings.{Opening};
 ghost use Rattle.view_spec.specs.Views.{placed, placed_row, view};
 ghost use Rattle.flat_show.specs.Entries.{entries_by_place};
 ghost use Rattle.view_kept.specs.Steps.{side_of};
 ghost use Rattle.flat_show.specs.Plans.{IsFlatPlan};
 
-use crate::cells::{header_of, shown_cells};
+use crate::cells::shown_cells;
 use crate::kept::kept_rows;
 use crate::placed::PlacedRows;
 use crate::places::place_of_row;
+use crate::splits::splits_of;
 use cell_core::{Copies, Listed, Memory, Schema, Steps};
 use place_order::Place;
 use plan_types::Plan;
@@ -22,6 +24,7 @@ use std::alloc::{AllocError, Global};
 use std::collections::BTreeMap;
 use std::sync::ledger::Ledger;
 use table_core::Table;
+use view_columns::{header_of, split_columns};
 use view_spec::PlacedRow;
 use view_types::{Header, ShownRow, ViewKey};
 
@@ -37,8 +40,8 @@ pub struct PlacedView {
     pub rows: PlacedRows,
 }
 
-/// What a flat view without splits shows of the table's rows, in whatever order the table has them. `steps` counts
-/// the visits of rows.
+/// What a flat view shows of the table's rows, in whatever order the table has them. `steps` counts the visits of
+/// rows.
 ///
 /// Want of memory is the only refusal.
 pub fn show_placed<L: Ledger>(
@@ -52,14 +55,23 @@ pub fn show_placed<L: Ledger>(
     ensures rows { (opening : Opening) → IfOk result (λ shown. shown.rows ≡ placed (side_of plan.now opening table.now)) }
 {
     let _table = table.len();
-    let header = header_of(alloc, table.schema(), plan)?;
     let kept = kept_rows(alloc, plan, table, steps)?;
+    let header = header_over(alloc, table.schema(), plan, kept.as_slice())?;
     let by_place = placed_rows(alloc, table.schema(), plan, kept.as_slice())?;
     let rows = collected(alloc, by_place)?;
     Ok(PlacedView {
         header,
         rows: PlacedRows::from_listed(Listed::from_vec(rows)),
     })
+}
+
+/// The header of a view of kept rows.
+fn header_over(alloc: Global, schema: &Schema, plan: &Plan, rows: &[Pair]) -> Result<Header, Memory>
+    ensures { IfOk result (λ header. header ≡ header_under schema.now.columns plan.now (splits plan.now rows.now)) }
+{
+    let paths = splits_of(alloc, plan, rows)?;
+    let made = split_columns(alloc, schema.columns(), plan, paths)?;
+    header_of(alloc, &made)
 }
 
 /// The rows at their places, as a list.
@@ -79,9 +91,7 @@ fn placed_rows(
     plan: &Plan,
     rows: &[Pair],
 ) -> Result<ByPlace, Memory>
-    requires whole { plan.now.split_by ≡ [] }
-    requires columns { All (λ i. i < length (all_columns schema.now.columns plan.now.expressions)) plan.now.columns }
-    requires distinct { AreDistinct (keys_of_rows rows.now) }
+    requires { AreDistinct (keys_of_rows rows.now) }
     ensures { IfOk result (λ by_place. by_place.entries ≡ entries_by_place schema.now.columns plan.now rows.now) }
 {
     let mut by_place = ByPlace::new(alloc);
@@ -99,8 +109,6 @@ fn put_row(
     pair: &Pair,
     by_place: &mut ByPlace,
 ) -> Result<(), Memory>
-    requires whole { plan.now.split_by ≡ [] }
-    requires columns { All (λ i. i < length (all_columns schema.now.columns plan.now.expressions)) plan.now.columns }
     ensures { OnOk result (by_place.new.entries ≡ insert_entry place_order by_place.old.entries
         (placed_row schema.now.columns plan.now pair.now).place (placed_row schema.now.columns plan.now pair.now).row) }
 {

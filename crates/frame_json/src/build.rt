@@ -234,7 +234,6 @@ fn cause_name(cause: Cause) -> &'static str
         Cause::Object => "object",
         Cause::Op => "op",
         Cause::Member => "member",
-        Cause::Unbuilt => "unbuilt",
         Cause::TableSet => "table set",
         Cause::NoColumns => "no columns",
         Cause::TooManyColumns => "too many columns",

@@ -24,7 +24,6 @@ cause_name cause.Json = codes "json"
 cause_name cause.Object = codes "object"
 cause_name cause.Op = codes "op"
 cause_name cause.Member = codes "member"
-cause_name cause.Unbuilt = codes "unbuilt"
 cause_name cause.TableSet = codes "table set"
 cause_name cause.NoColumns = codes "no columns"
 cause_name cause.TooManyColumns = codes "too many columns"
@@ -103,7 +102,7 @@ row_cause row.Long = cause.Long
 
 -- ---- the refusals by their codes
 
--- the line is no request, or its plan isn't built yet
+-- the line is no request
 abbrev pub bad_frame : Cause → Refusal
 bad_frame why = record { code = 1; cause = why; at = Zero }
 

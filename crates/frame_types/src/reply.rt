@@ -17,8 +17,6 @@ pub enum Cause {
     Op,
     /// A member of a request is missing, unknown or not of its form.
     Member,
-    /// A plan with splits isn't built yet.
-    Unbuilt,
     /// A table was made before.
     TableSet,
     /// A table is to have no columns.

@@ -1,5 +1,5 @@
 -- What is shown of a group, and where.
-use Rattle.std.proofs.Common.{◌≡◌, ℕ, zero, suc, ◌+◌, ◌<◌, ◌≤◌, Bool, true, false, cond, ◌||◌, List, [], ◌∷◌, ◌++◌, map, length, get_or, take, drop, Option, Some, None, refl, sym, ◌∙◌, ap, arith, eq-eqb}
+use Rattle.std.proofs.Common.{◌≡◌, ℕ, zero, suc, ◌+◌, ◌<◌, ◌≤◌, Bool, true, false, ◌||◌, List, [], ◌∷◌, ◌++◌, map, length, get_or, take, drop, Option, Some, None, refl, sym, ◌∙◌, ap, arith, eq-eqb}
 use Rattle.std.specs.Prelude.{nat_eq}
 use Rattle.std.specs.List.{slice_get}
 use Rattle.std.specs.Option.{option_map}
@@ -17,61 +17,77 @@ use Rattle.plan_types.specs.declared.plan.Plan.{Plan}
 use Rattle.plan_types.specs.declared.plan.Sort.{Sort}
 use Rattle.view_types.specs.declared.key.ViewKey.TheVariants.{Group}
 use Rattle.view_types.specs.declared.shown.HeaderColumn.{HeaderColumn}
-use Rattle.view_spec.specs.Cells.{cells_of_group, head_at, text_at, with_columns, with_value}
-use Rattle.view_spec.specs.Filters.{cell_in}
-use Rattle.view_spec.specs.Members.{members, split_of, splits, splits_by, within}
+use Rattle.view_spec.specs.Cells.{cells_of_group, head_at, text_at, with_columns, with_splits, with_value}
+use Rattle.view_spec.specs.Members.{members, splits, within}
 use Rattle.view_spec.specs.Openings.{Opening, mark_of}
-use Rattle.view_spec.specs.Paths.{path_set, same_path}
 use Rattle.view_spec.specs.Places.{group_ranks, place_of_group, rows_value}
 use Rattle.view_spec.specs.Views.{placed_group}
 use Rattle.view_spec.specs.declared.placed.PlacedRow.{PlacedRow}
 use Rattle.view_spec.proofs.PlaceLaws.{levels-last}
+use Rattle.view_columns.specs.Headers.{each_under, under}
+use Rattle.view_columns.specs.declared.headers.SplitColumns.{SplitColumns}
 use Rattle.pivot_tree.specs.Columns.{is_among, is_used}
 use Rattle.pivot_tree.proofs.UsedSteps.{among_before}
 
 -- ---- cells
 
-within_all : (plan : Plan) (rows : List Pair) → plan.split_by ≡ [] → within plan [] rows ≡ rows
-within_all plan [] whole = refl
-within_all plan (p ∷ rows) whole =
-    ap (λ by. cond (same_path [] (map (cell_in p.row) by)) (p ∷ within plan [] rows) (within plan [] rows)) whole ∙ ap (λ rs. p ∷ rs) (within_all plan rows whole)
-
--- without splits each shown column stands once
-pub cells_whole : (columns : List Column) (plan : Plan) (rows ms : List Pair) → plan.split_by ≡ []
-    → with_columns columns plan [] (rows_value columns plan ms) plan.columns [] ≡ cells_of_group columns plan (splits plan rows) ms
-cells_whole columns plan rows ms whole =
-    sym (ap (λ by. cells_of_group columns plan (splits_by by (path_set (map (split_of plan) rows))) ms) whole
-    ∙ ap (λ rs. with_columns columns plan [] (rows_value columns plan rs) plan.columns []) (within_all plan ms whole))
-
 -- the next column's value put in
-pub cells_more : (columns : List Column) (plan : Plan) (value_at : ℕ → Option Value) (items : List ℕ) (i : ℕ) (cells made : List (List ℕ × Value)) (text : List ℕ) (value : Option Value)
-    → i < length items → text ≡ text_at columns plan [] (get_or items i 0) → value ≡ value_at (get_or items i 0) → made ≡ with_value cells text value
-    → with_columns columns plan [] value_at (drop (i + 1) items) made ≡ with_columns columns plan [] value_at (drop i items) cells
-cells_more columns plan value_at items i cells made text value inside texts values put =
-    ap (with_columns columns plan [] value_at (drop (i + 1) items)) (put ∙ (λ k. with_value cells (texts k) (values k)))
-    ∙ sym (ap (λ is. with_columns columns plan [] value_at is cells) (drop_more items i 0 inside))
+pub cells_more : (columns : List Column) (plan : Plan) (split : List Cell) (value_at : ℕ → Option Value) (items : List ℕ) (i : ℕ) (cells made : List (List ℕ × Value)) (text : List ℕ) (value : Option Value)
+    → i < length items → text ≡ text_at columns plan split (get_or items i 0) → value ≡ value_at (get_or items i 0) → made ≡ with_value cells text value
+    → with_columns columns plan split value_at (drop (i + 1) items) made ≡ with_columns columns plan split value_at (drop i items) cells
+cells_more columns plan split value_at items i cells made text value inside texts values put =
+    ap (with_columns columns plan split value_at (drop (i + 1) items)) (put ∙ (λ k. with_value cells (texts k) (values k)))
+    ∙ sym (ap (λ is. with_columns columns plan split value_at is cells) (drop_more items i 0 inside))
 
 -- no column is left
-pub cells_end : (columns : List Column) (plan : Plan) (value_at : ℕ → Option Value) (items : List ℕ) (i : ℕ) (cells : List (List ℕ × Value)) → items ≡ plan.columns → length items ≤ i
-    → with_columns columns plan [] value_at (drop i items) cells ≡ with_columns columns plan [] value_at items [] → cells ≡ with_columns columns plan [] value_at plan.columns []
-cells_end columns plan value_at items i cells is past all =
-    sym (ap (λ is. with_columns columns plan [] value_at is cells) (drop_all i items past)) ∙ all ∙ ap (λ is. with_columns columns plan [] value_at is []) is
+pub cells_end : (columns : List Column) (plan : Plan) (split : List Cell) (value_at : ℕ → Option Value) (items : List ℕ) (i : ℕ) (first cells : List (List ℕ × Value)) → items ≡ plan.columns → length items ≤ i
+    → with_columns columns plan split value_at (drop i items) cells ≡ with_columns columns plan split value_at items first → cells ≡ with_columns columns plan split value_at plan.columns first
+cells_end columns plan split value_at items i first cells is past all =
+    sym (ap (λ is. with_columns columns plan split value_at is cells) (drop_all i items past)) ∙ all ∙ ap (λ is. with_columns columns plan split value_at is first) is
 
-head_found : (columns : List Column) (plan : Plan) (header : List HeaderColumn) (items : List ℕ) (i : ℕ) → header ≡ map (head_at columns plan []) plan.columns → items ≡ plan.columns → i < length items
-    → slice_get header i ≡ Some (head_at columns plan [] (get_or items i 0))
-head_found columns plan header items i head is inside =
-    ap (λ hs. slice_get hs i) (head ∙ ap (map (head_at columns plan [])) (sym is)) ∙ slice_get-map (head_at columns plan []) items i
-    ∙ ap (λ o. option_map (head_at columns plan []) o) (slice_get-get_or items i 0 inside)
+head_found : (columns : List Column) (plan : Plan) (split : List Cell) (header : List HeaderColumn) (items : List ℕ) (i : ℕ) → header ≡ under columns plan split → items ≡ plan.columns → i < length items
+    → slice_get header i ≡ Some (head_at columns plan split (get_or items i 0))
+head_found columns plan split header items i head is inside =
+    ap (λ hs. slice_get hs i) (head ∙ ap (map (head_at columns plan split)) (sym is)) ∙ slice_get-map (head_at columns plan split) items i
+    ∙ ap (λ o. option_map (head_at columns plan split) o) (slice_get-get_or items i 0 inside)
 
 -- the text of a column stands in the header
-pub head_text : (columns : List Column) (plan : Plan) (header : List HeaderColumn) (items : List ℕ) (i : ℕ) (h : HeaderColumn) → header ≡ map (head_at columns plan []) plan.columns → items ≡ plan.columns
-    → i < length items → slice_get header i ≡ Some h → h.text ≡ text_at columns plan [] (get_or items i 0)
-head_text columns plan header items i h head is inside at =
-    ap (λ (g : HeaderColumn). g.text) (same_Some h (head_at columns plan [] (get_or items i 0)) (sym at ∙ head_found columns plan header items i head is inside))
+pub head_text : (columns : List Column) (plan : Plan) (split : List Cell) (header : List HeaderColumn) (items : List ℕ) (i : ℕ) (h : HeaderColumn) → header ≡ under columns plan split → items ≡ plan.columns
+    → i < length items → slice_get header i ≡ Some h → h.text ≡ text_at columns plan split (get_or items i 0)
+head_text columns plan split header items i h head is inside at =
+    ap (λ (g : HeaderColumn). g.text) (same_Some h (head_at columns plan split (get_or items i 0)) (sym at ∙ head_found columns plan split header items i head is inside))
 
-pub no_head : (columns : List Column) (plan : Plan) (header : List HeaderColumn) (items : List ℕ) (i : ℕ) → header ≡ map (head_at columns plan []) plan.columns → items ≡ plan.columns → i < length items
+pub no_head : (columns : List Column) (plan : Plan) (split : List Cell) (header : List HeaderColumn) (items : List ℕ) (i : ℕ) → header ≡ under columns plan split → items ≡ plan.columns → i < length items
     → slice_get header i ≡ None → ⊥
-no_head columns plan header items i head is inside at = none-some (head_at columns plan [] (get_or items i 0)) (sym at ∙ head_found columns plan header items i head is inside)
+no_head columns plan split header items i head is inside at = none-some (head_at columns plan split (get_or items i 0)) (sym at ∙ head_found columns plan split header items i head is inside)
+
+-- ---- cells under each split path
+
+abbrev pub split_under : List Column → Plan → List Cell → SplitColumns
+split_under columns plan s = record { split = s; columns = under columns plan s }
+
+pub each_length : (columns : List Column) (plan : Plan) (paths : List (List Cell)) (made : List SplitColumns) → made ≡ each_under columns plan paths → length made ≡ length paths
+each_length columns plan paths made is = ap length is ∙ length-map paths (split_under columns plan)
+
+-- the columns under the split path at a place
+pub split_at : (columns : List Column) (plan : Plan) (paths : List (List Cell)) (made : List SplitColumns) (i : ℕ) (x : SplitColumns) → made ≡ each_under columns plan paths → i < length made → x ≡ get_or made i x
+    → x ≡ split_under columns plan (get_or paths i [])
+split_at columns plan paths made i x is inside at =
+    let listed : i < length paths = let long = each_length columns plan paths made is in omega arith in
+    at ∙ ap (λ xs. get_or xs i x) is ∙ get_or-map (split_under columns plan) paths i [] x listed
+
+-- the values under one split path more
+pub splits_more : (columns : List Column) (plan : Plan) (ms : List Pair) (paths : List (List Cell)) (i : ℕ) (split : List Cell) (cells made : List (List ℕ × Value)) → i < length paths → split ≡ get_or paths i []
+    → made ≡ with_columns columns plan split (rows_value columns plan (within plan split ms)) plan.columns cells
+    → with_splits columns plan ms (drop (i + 1) paths) made ≡ with_splits columns plan ms (drop i paths) cells
+splits_more columns plan ms paths i split cells made inside at put =
+    ap (with_splits columns plan ms (drop (i + 1) paths)) (put ∙ ap (λ s. with_columns columns plan s (rows_value columns plan (within plan s ms)) plan.columns cells) at)
+    ∙ sym (ap (λ ss. with_splits columns plan ms ss cells) (drop_more paths i [] inside))
+
+-- no split path is left
+pub splits_end : (columns : List Column) (plan : Plan) (ms : List Pair) (paths : List (List Cell)) (i : ℕ) (cells : List (List ℕ × Value)) → length paths ≤ i
+    → with_splits columns plan ms (drop i paths) cells ≡ with_splits columns plan ms paths [] → cells ≡ cells_of_group columns plan paths ms
+splits_end columns plan ms paths i cells past all = sym (ap (λ ss. with_splits columns plan ms ss cells) (drop_all i paths past)) ∙ all
 
 -- ---- used columns
 

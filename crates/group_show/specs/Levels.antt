@@ -10,21 +10,21 @@ use Rattle.place_order.specs.Places.{place_order}
 use Rattle.place_order.specs.declared.rank.Rank.{Rank}
 use Rattle.row_batch.specs.declared.batch.Pair.{Pair}
 use Rattle.plan_types.specs.declared.plan.Plan.{Plan}
-use Rattle.view_types.specs.declared.shown.HeaderColumn.{HeaderColumn}
 use Rattle.view_types.specs.declared.shown.ShownRow.{ShownRow}
-use Rattle.view_spec.specs.Cells.{head_at}
 use Rattle.view_spec.specs.Entries.{is_there}
+use Rattle.view_spec.specs.Members.{splits}
 use Rattle.view_spec.specs.Openings.{Opening, is_visible, mark_of}
 use Rattle.view_spec.specs.Paths.{same_path}
 use Rattle.view_spec.specs.Views.{placed_group}
 use Rattle.view_spec.specs.declared.placed.PlacedRow.{PlacedRow}
+use Rattle.view_columns.specs.Headers.{each_under}
+use Rattle.view_columns.specs.declared.headers.SplitColumns.{SplitColumns}
 use Rattle.pivot_tree.specs.Trees.{IsTreeOf}
 use Rattle.pivot_tree.specs.declared.tree.PivotTree.{PivotTree}
 
--- a tree of a plan's kept rows, and the header of their view, where nothing is split
-pub record IsShape (columns : List Column) (plan : Plan) (header : List HeaderColumn) (tree : PivotTree) (rows : List Pair) : Type 0 where
-  pub whole : plan.split_by ≡ []
-  pub header_is : header ≡ map (head_at columns plan []) plan.columns
+-- a tree of a plan's kept rows, and the shown columns under each of their split paths
+pub record IsShape (columns : List Column) (plan : Plan) (split_columns : List SplitColumns) (tree : PivotTree) (rows : List Pair) : Type 0 where
+  pub splits_are : split_columns ≡ each_under columns plan (splits plan rows)
   pub tree_is : IsTreeOf columns plan tree rows
 
 -- ---- paths

@@ -1,5 +1,5 @@
 -- Plans of views with groups.
-use Rattle.std.specs.Prelude.{◌≡◌, ◌<◌, [], true, false, List, All, length}
+use Rattle.std.specs.Prelude.{◌≡◌, ◌<◌, true, false, List, All, length}
 use Rattle.cell_core.specs.declared.schema.Column.{Column}
 use Rattle.expr_spec.specs.TreeViews.{tree_view}
 use Rattle.expr_spec.specs.Typing.{IsCheckedTree}
@@ -9,11 +9,10 @@ use Rattle.plan_types.specs.Columns.{all_columns}
 use Rattle.view_spec.specs.Columns.{aggregate_at, column_at, is_flat}
 use Rattle.pivot_tree.specs.Columns.{used_columns}
 
--- a plan with groups and without splits, whose shown columns are there, whose expressions are checked trees of their
--- types, and whose aggregates take the types of the columns that it shows or sorts by
+-- a plan with groups, whose shown columns are there, whose expressions are checked trees of their types, and whose
+-- aggregates take the types of the columns that it shows or sorts by
 pub record IsGroupedPlan (columns : List Column) (plan : Plan) : Type 0 where
   pub grouped : is_flat plan ≡ false
-  pub whole : plan.split_by ≡ []
   pub within : All (λ i. i < length (all_columns columns plan.expressions)) plan.columns
   pub trees : All (λ e. IsCheckedTree columns (tree_view e.tree) e.kind) plan.expressions
   pub taken : All (λ i. takes (aggregate_at columns plan i) (column_at columns plan i).kind ≡ true) (used_columns plan)

@@ -1,41 +1,43 @@
-ghost use Rattle.std.specs.Prelude.{◌≡◌, [], ◌∷◌, ◌++◌, List, IfOk, OnOk, Option, map};
+ghost use Rattle.std.specs.Prelude.{◌≡◌, [], ◌∷◌, ◌++◌, List, IfOk, OnOk};
 ghost use Rattle.cell_core.specs.Cells.{value_of};
 ghost use Rattle.cell_core.specs.declared.cell.Cell.{Cell as CellData};
 ghost use Rattle.cell_core.specs.declared.schema.Column.{Column as ColumnData};
 ghost use Rattle.place_order.specs.declared.rank.Rank.TheVariants.{Asc as AscRank};
 ghost use Rattle.row_batch.specs.declared.batch.Pair.{Pair};
-ghost use Rattle.view_spec.specs.Cells.{head_at, with_columns, with_value};
-ghost use Rattle.view_spec.specs.Members.{members};
+ghost use Rattle.view_spec.specs.Cells.{cells_of_group, with_columns};
+ghost use Rattle.view_spec.specs.Members.{members, splits, within};
 ghost use Rattle.view_spec.specs.Places.{group_ranks, place_of_group, rows_value};
 ghost use Rattle.view_spec.specs.Views.{placed_group};
+ghost use Rattle.view_columns.specs.Headers.{each_under, under};
 ghost use Rattle.pivot_tree.specs.Trees.{IsNode};
 
 use crate::ranks::{place_copied, rank_of};
-use cell_core::{Cell, Copies, Memory, Path, Text, Value};
+use cell_core::{Cell, Copies, Memory, Path};
 use pivot_tree::Node;
 use place_order::{Place, Rank};
 use plan_types::Plan;
 use std::alloc::Global;
+use view_columns::{SplitColumns, put_value};
 use view_shape::OpenState;
 use view_spec::PlacedRow;
-use view_types::{HeaderColumn, ShownCells, ShownRow, ViewKey};
+use view_types::{ShownCells, ShownRow, ViewKey};
 
 /// A group as it is shown, of its node, at its place. Want of memory is the only refusal.
 pub fn group_row(
     alloc: Global,
     plan: &Plan,
     opening: &OpenState,
-    header: &[HeaderColumn],
+    split_columns: &[SplitColumns],
     node: &Node,
     place: Place,
     path: Path,
 ) -> Result<PlacedRow, Memory>
     ensures { (columns : List ColumnData) (rows : List Pair) → IsNode columns plan.now path node.now rows
-        → plan.now.split_by ≡ [] → header.now ≡ map (head_at columns plan.now []) plan.now.columns
+        → split_columns.now ≡ each_under columns plan.now (splits plan.now rows)
         → place ≡ place_of_group columns plan.now rows path
         → IfOk result (λ row. row ≡ placed_group columns plan.now opening.now rows path) }
 {
-    let cells = group_cells(alloc, plan, header, node)?;
+    let cells = group_cells(alloc, plan, split_columns, node)?;
     let mark = path.len() < plan.group_by.len() && opening.is_open(&path);
     Ok(PlacedRow {
         place,
@@ -68,39 +70,43 @@ pub fn place_below(
     Ok(place)
 }
 
-/// The aggregates of a group's shown columns, each under the text of its column.
+/// The aggregates of a group's shown columns under each split path, each under the text of its column there.
 fn group_cells(
     alloc: Global,
     plan: &Plan,
-    header: &[HeaderColumn],
+    split_columns: &[SplitColumns],
     node: &Node,
 ) -> Result<ShownCells, Memory>
-    ensures { (columns : List ColumnData) (path : List CellData) (rows : List Pair) → IsNode columns plan.now path node.now rows
-        → header.now ≡ map (head_at columns plan.now []) plan.now.columns
-        → IfOk result (λ cells. cells
-        ≡ with_columns columns plan.now [] (rows_value columns plan.now (members plan.now rows path)) plan.now.columns []) }
+    ensures { (columns : List ColumnData) (path : List CellData) (rows : List Pair) (paths : List (List CellData)) → IsNode columns plan.now path node.now rows
+        → split_columns.now ≡ each_under columns plan.now paths
+        → IfOk result (λ cells. cells ≡ cells_of_group columns plan.now paths (members plan.now rows path)) }
 {
     let mut cells = ShownCells::new(alloc);
-    for (i, column) in plan.columns.as_slice().iter().enumerate() {
-        if let Some(head) = header.get(i) {
-            let value = node.value(None, *column)?;
-            put_value(alloc, &mut cells, &head.text, value)?;
-        }
+    for one in split_columns {
+        put_split(alloc, plan, one, node, &mut cells)?;
     }
     Ok(cells)
 }
 
-/// Puts a value under a text, and nothing for null.
-fn put_value(
+/// Puts the aggregates of a group's shown columns over its members of one split, each under the text of its column there.
+fn put_split(
     alloc: Global,
+    plan: &Plan,
+    one: &SplitColumns,
+    node: &Node,
     cells: &mut ShownCells,
-    text: &Text,
-    value: Option<Value>,
 ) -> Result<(), Memory>
-    ensures { OnOk result (cells.new ≡ with_value cells.old text.now value) }
+    ensures { (columns : List ColumnData) (path : List CellData) (rows : List Pair) → IsNode columns plan.now path node.now rows
+        → one.now.columns ≡ under columns plan.now one.now.split
+        → OnOk result (cells.new ≡ with_columns columns plan.now one.now.split
+        (rows_value columns plan.now (within plan.now one.now.split (members plan.now rows path))) plan.now.columns cells.old) }
 {
-    if let Some(value) = value {
-        cells.put(text.copy(alloc)?, value)?;
+    let header = one.columns.as_slice();
+    for (i, column) in plan.columns.as_slice().iter().enumerate() {
+        if let Some(head) = header.get(i) {
+            let value = node.value(Some(&one.split), *column)?;
+            put_value(alloc, cells, &head.text, value)?;
+        }
     }
     Ok(())
 }

@@ -3,7 +3,6 @@ ghost use Rattle.view_kept.specs.Steps.{side_of};
 ghost use Rattle.view_spec.specs.Views.{placed, view};
 ghost use Rattle.group_show.specs.Plans.{IsGroupedPlan};
 
-use crate::columns::header_of;
 use crate::kept::kept_tree;
 use crate::walk::{ByPlace, open_rows};
 use cell_core::{Listed, Memory, Steps};
@@ -12,6 +11,7 @@ use plan_types::Plan;
 use std::alloc::{AllocError, Global};
 use std::sync::ledger::Ledger;
 use table_core::Table;
+use view_columns::{header_of, split_columns};
 use view_shape::OpenState;
 use view_spec::PlacedRow;
 use view_types::Header;
@@ -25,7 +25,7 @@ pub struct PlacedGroups {
     pub rows: PlacedRows,
 }
 
-/// What a view with groups and without splits shows of the table's rows, in whatever order the table has them. `steps`
+/// What a view with groups shows of the table's rows, in whatever order the table has them. `steps`
 /// counts the visits of rows and groups.
 ///
 /// Want of memory is the only refusal.
@@ -41,12 +41,13 @@ pub fn show_groups<L: Ledger>(
     ensures rows { IfOk result (λ shown. shown.rows ≡ placed (side_of plan.now opening.now table.now)) }
 {
     let _count = table.len();
-    let header = header_of(alloc, table.schema(), plan)?;
     let tree = kept_tree(alloc, plan, table, steps)?;
-    let by_place = open_rows(alloc, plan, opening, header.as_slice(), &tree, steps)?;
+    let splits = tree.splits(alloc)?;
+    let columns = split_columns(alloc, table.schema().columns(), plan, splits)?;
+    let by_place = open_rows(alloc, plan, opening, &columns, &tree, steps)?;
     let rows = collected(alloc, by_place)?;
     Ok(PlacedGroups {
-        header,
+        header: header_of(alloc, &columns)?,
         rows: PlacedRows::from_listed(Listed::from_vec(rows)),
     })
 }

@@ -18,9 +18,10 @@ use plan_types::Plan;
 use std::alloc::Global;
 use std::collections::BTreeMap;
 use std::sync::ledger::Ledger;
+use view_columns::SplitColumns;
 use view_shape::OpenState;
 use view_spec::PlacedRow;
-use view_types::{HeaderColumn, ShownRow, ViewKey};
+use view_types::{ShownRow, ViewKey};
 
 /// Shown rows at their places.
 pub(crate) type ByPlace = BTreeMap<Place, ShownRow>;
@@ -31,17 +32,17 @@ pub(crate) fn open_rows<L: Ledger>(
     alloc: Global,
     plan: &Plan,
     opening: &OpenState,
-    header: &[HeaderColumn],
+    split_columns: &[SplitColumns],
     tree: &PivotTree,
     steps: &mut Steps<L>,
 ) -> Result<ByPlace, Memory>
-    ensures { (columns : List ColumnData) (rows : List Pair) → IsShape columns plan.now header.now tree.now rows
+    ensures { (columns : List ColumnData) (rows : List Pair) → IsShape columns plan.now split_columns.now tree.now rows
         → IfOk result (λ by_place. AreEntries columns plan.now opening.now rows by_place.entries) }
 {
     let mut by_place = ByPlace::new(alloc);
-    let mut level = total_level(alloc, plan, opening, header, tree, steps)?;
+    let mut level = total_level(alloc, plan, opening, split_columns, tree, steps)?;
     for _depth in 0..plan.group_by.len() {
-        let below = level_below(alloc, plan, opening, header, tree, &level, steps)?;
+        let below = level_below(alloc, plan, opening, split_columns, tree, &level, steps)?;
         put_all(&mut by_place, level)?;
         level = below;
     }
@@ -54,18 +55,18 @@ fn total_level<L: Ledger>(
     alloc: Global,
     plan: &Plan,
     opening: &OpenState,
-    header: &[HeaderColumn],
+    split_columns: &[SplitColumns],
     tree: &PivotTree,
     steps: &mut Steps<L>,
 ) -> Result<Vec<PlacedRow>, Memory>
-    ensures { (columns : List ColumnData) (rows : List Pair) → IsShape columns plan.now header.now tree.now rows
+    ensures { (columns : List ColumnData) (rows : List Pair) → IsShape columns plan.now split_columns.now tree.now rows
         → IfOk result (λ level. level.items ≡ placed_group columns plan.now opening.now rows [] ∷ []) }
 {
     let mut level = Vec::new(alloc);
     let path = Path::new(alloc);
     if let Some(node) = tree.node(&path, steps) {
         let place = Place::new(alloc);
-        level.push(group_row(alloc, plan, opening, header, node, place, path)?)?;
+        level.push(group_row(alloc, plan, opening, split_columns, node, place, path)?)?;
     }
     Ok(level)
 }
@@ -75,18 +76,27 @@ fn level_below<L: Ledger>(
     alloc: Global,
     plan: &Plan,
     opening: &OpenState,
-    header: &[HeaderColumn],
+    split_columns: &[SplitColumns],
     tree: &PivotTree,
     level: &[PlacedRow],
     steps: &mut Steps<L>,
 ) -> Result<Vec<PlacedRow>, Memory>
-    ensures { (columns : List ColumnData) (rows : List Pair) (paths : List (List CellData)) → IsShape columns plan.now header.now tree.now rows
+    ensures { (columns : List ColumnData) (rows : List Pair) (paths : List (List CellData)) → IsShape columns plan.now split_columns.now tree.now rows
         → level.now ≡ map (placed_group columns plan.now opening.now rows) paths → IsDistinct same_path paths
         → IfOk result (λ below. AreRowsBelow columns plan.now opening.now rows paths below.items) }
 {
     let mut below = Vec::new(alloc);
     for above in level {
-        add_below(alloc, plan, opening, header, tree, above, &mut below, steps)?;
+        add_below(
+            alloc,
+            plan,
+            opening,
+            split_columns,
+            tree,
+            above,
+            &mut below,
+            steps,
+        )?;
     }
     Ok(below)
 }
@@ -96,13 +106,13 @@ fn add_below<L: Ledger>(
     alloc: Global,
     plan: &Plan,
     opening: &OpenState,
-    header: &[HeaderColumn],
+    split_columns: &[SplitColumns],
     tree: &PivotTree,
     above: &PlacedRow,
     below: &mut Vec<PlacedRow>,
     steps: &mut Steps<L>,
 ) -> Result<(), Memory>
-    ensures { (columns : List ColumnData) (rows : List Pair) (path : List CellData) → IsShape columns plan.now header.now tree.now rows
+    ensures { (columns : List ColumnData) (rows : List Pair) (path : List CellData) → IsShape columns plan.now split_columns.now tree.now rows
         → above.now ≡ placed_group columns plan.now opening.now rows path
         → OnOk result (AddsBelow columns plan.now opening.now rows path (mark_of plan.now opening.now path) below.old.items below.new.items) }
 {
@@ -110,7 +120,15 @@ fn add_below<L: Ledger>(
         ViewKey::Group(path) if above.row.mark => {
             let place = &above.place;
             add_children(
-                alloc, plan, opening, header, tree, place, path, below, steps,
+                alloc,
+                plan,
+                opening,
+                split_columns,
+                tree,
+                place,
+                path,
+                below,
+                steps,
             )
         }
         _ => Ok(()),
@@ -122,21 +140,30 @@ fn add_children<L: Ledger>(
     alloc: Global,
     plan: &Plan,
     opening: &OpenState,
-    header: &[HeaderColumn],
+    split_columns: &[SplitColumns],
     tree: &PivotTree,
     place: &Place,
     path: &Path,
     below: &mut Vec<PlacedRow>,
     steps: &mut Steps<L>,
 ) -> Result<(), Memory>
-    ensures { (columns : List ColumnData) (rows : List Pair) → IsShape columns plan.now header.now tree.now rows
+    ensures { (columns : List ColumnData) (rows : List Pair) → IsShape columns plan.now split_columns.now tree.now rows
         → place.now ≡ place_of_group columns plan.now rows path.now
         → OnOk result (AddsBelow columns plan.now opening.now rows path.now true below.old.items below.new.items) }
 {
     let values = tree.children(alloc, path)?;
     for value in values.as_slice() {
         add_child(
-            alloc, plan, opening, header, tree, place, path, value, below, steps,
+            alloc,
+            plan,
+            opening,
+            split_columns,
+            tree,
+            place,
+            path,
+            value,
+            below,
+            steps,
         )?;
     }
     Ok(())
@@ -147,7 +174,7 @@ fn add_child<L: Ledger>(
     alloc: Global,
     plan: &Plan,
     opening: &OpenState,
-    header: &[HeaderColumn],
+    split_columns: &[SplitColumns],
     tree: &PivotTree,
     place: &Place,
     path: &Path,
@@ -155,7 +182,7 @@ fn add_child<L: Ledger>(
     below: &mut Vec<PlacedRow>,
     steps: &mut Steps<L>,
 ) -> Result<(), Memory>
-    ensures { (columns : List ColumnData) (rows : List Pair) → IsShape columns plan.now header.now tree.now rows
+    ensures { (columns : List ColumnData) (rows : List Pair) → IsShape columns plan.now split_columns.now tree.now rows
         → place.now ≡ place_of_group columns plan.now rows path.now
         → is_there plan.now rows (path.now ++ value.now ∷ []) ≡ true
         → OnOk result (below.new.items ≡ below.old.items ++ placed_group columns plan.now opening.now rows (path.now ++ value.now ∷ []) ∷ []) }
@@ -164,7 +191,7 @@ fn add_child<L: Ledger>(
     path.push(value.copy(alloc)?)?;
     if let Some(node) = tree.node(&path, steps) {
         let place = place_below(alloc, plan, node, place, value)?;
-        below.push(group_row(alloc, plan, opening, header, node, place, path)?)?;
+        below.push(group_row(alloc, plan, opening, split_columns, node, place, path)?)?;
     }
     Ok(())
 }

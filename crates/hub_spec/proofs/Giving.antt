@@ -12,10 +12,9 @@ use Rattle.row_batch.specs.declared.batch.Batch.{Batch}
 use Rattle.row_batch.specs.declared.refused.BatchRefused.{BatchRefused}
 use Rattle.frame_types.specs.Asks.{Ask}
 use Rattle.frame_types.specs.Asks as ask
-use Rattle.frame_types.specs.Refusals.{bad_frame, no_table, no_view, table_set, view_lost}
+use Rattle.frame_types.specs.Refusals.{no_table, no_view, table_set, view_lost}
 use Rattle.frame_types.specs.declared.reply.Body.{Body}
 use Rattle.frame_types.specs.declared.reply.Body.TheVariants as body
-use Rattle.frame_types.specs.declared.reply.Cause.TheVariants.{Unbuilt}
 use Rattle.frame_types.specs.declared.reply.Refusal.{Refusal}
 use Rattle.plan_check.specs.Plans.{checked}
 use Rattle.plan_check.specs.declared.refused.PlanFault.{PlanFault}
@@ -28,7 +27,7 @@ use Rattle.hub_spec.specs.Bases.{delta_in, dirty}
 use Rattle.hub_spec.specs.Giving.{IsGiven, body_in, plain_in}
 use Rattle.hub_spec.specs.HeldViews.{HeldView, held_view, shown}
 use Rattle.hub_spec.specs.Histories.{choice_of, plenty, want, may_choose, takes_none}
-use Rattle.hub_spec.specs.Plans.{is_unbuilt, plan_asked, plan_checked, plan_read}
+use Rattle.hub_spec.specs.Plans.{plan_asked, plan_checked, plan_read}
 use Rattle.hub_spec.specs.Ports.{schema as schema_made}
 use Rattle.hub_spec.specs.Rows.{schema_or_none}
 
@@ -94,16 +93,15 @@ group_wants : (past : List PastStep) (session view : ℕ) (path : List Cell)
 group_wants past session view path = (if_wants _ _ refl, (lost_wants _, (if_wants _ _ refl, (whole_wants (held_view past session view) path, (singles_want (held_view past session view) path, tt)))))
 
 plan_wants : (schema : SchemaData) (plan : RawData) → MayWant (faulty_plan (plan_asked schema plan))
-plan_wants schema plan = by (is_unbuilt plan) (plan_of plan)
+plan_wants schema plan = by (plan_of plan)
   where
     checked_wants : (found : Result Plan PlanFault) → MayWant (faulty_plan (plan_checked found))
     checked_wants (Ok good) = tt
     checked_wants (Err why) = refl
 
-    by : (unbuilt : Bool) (read : Option RawPlanData) → MayWant (faulty_plan (if unbuilt then Err (bad_frame Unbuilt) else plan_read schema read))
-    by true read = refl
-    by false None = refl
-    by false (Some raw) = checked_wants (checked schema raw)
+    by : (read : Option RawPlanData) → MayWant (faulty_plan (plan_read schema read))
+    by None = refl
+    by (Some raw) = checked_wants (checked schema raw)
 
 -- ---- requests that take memory
 
@@ -145,17 +143,15 @@ edited_wants request view (Some v) goes takes = takes (v.edit + 1)
 
 opened_wants : (past : List PastStep) (session : ℕ) (plan : RawData) (bound : ℕ) (schema : SchemaData)
     → takes_none (ask.open_view plan bound) (opened_answer past session bound (plan_asked schema plan)) ≡ false
-opened_wants past session plan bound schema = by (is_unbuilt plan) (plan_of plan)
+opened_wants past session plan bound schema = by (plan_of plan)
   where
     checked_wants : (found : Result Plan PlanFault) → takes_none (ask.open_view plan bound) (opened_answer past session bound (plan_checked found)) ≡ false
     checked_wants (Ok good) = refl
     checked_wants (Err why) = refl
 
-    by : (unbuilt : Bool) (read : Option RawPlanData)
-        → takes_none (ask.open_view plan bound) (opened_answer past session bound (if unbuilt then Err (bad_frame Unbuilt) else plan_read schema read)) ≡ false
-    by true read = refl
-    by false None = refl
-    by false (Some raw) = checked_wants (checked schema raw)
+    by : (read : Option RawPlanData) → takes_none (ask.open_view plan bound) (opened_answer past session bound (plan_read schema read)) ≡ false
+    by None = refl
+    by (Some raw) = checked_wants (checked schema raw)
 
 abbrev pub TakesMemory : Ask → Type 0
 TakesMemory request = takes_none request body.Table ≡ false
@@ -193,7 +189,7 @@ may_want past session (ask.open_view plan bound) takes made =
     (opened_wants past session plan bound (schema_or_none past)) made
 may_want past session (ask.edit_view view plan) takes made =
     wants_behind past session (ask.edit_view view plan) _ refl (λ why. refl)
-    (if_wants _ _ refl, (if_wants _ _ refl, (lost_wants _, (plan_wants (schema_or_none past) plan, tt))))
+    (if_wants _ _ refl, (lost_wants _, (plan_wants (schema_or_none past) plan, tt)))
     (edited_wants (ask.edit_view view plan) view (held_view past session view) (λ why. refl) (λ edit. refl)) made
 may_want past session (ask.depth view depth) takes made =
     wants_behind past session (ask.depth view depth) _ refl (λ why. refl) (if_wants _ _ refl, (lost_wants _, tt))

@@ -1,6 +1,7 @@
 -- Worked histories: what the definitions say of them, computed.
 use Rattle.std.proofs.Common.{◌≡◌, ℕ, suc, zero, ℤ, pos, negsuc, Bool, true, false, List, [], ◌∷◌, length, Option, Some, None, Err, refl}
 use Rattle.std.specs.Prelude.{codes}
+use Rattle.std.specs.Fmt.{digits}
 use Rattle.value_core.specs.Values.{value_order}
 use Rattle.value_core.specs.declared.value.Value.TheVariants.{Whole}
 use Rattle.cell_core.specs.RawData.{RawData, raw_null, raw_int, raw_words, raw_list, raw_map, RawItems, no_raw_items, raw_item, no_raw_members, raw_member}
@@ -66,9 +67,6 @@ asks request = by 0 request plenty
 abbrev reply : ℕ → ℕ → Body → ReplyData
 reply n version answer = record { n = n; version = version; body = answer }
 
-abbrev refused_unbuilt : Body
-refused_unbuilt = body.Refused (bad_frame cause.Unbuilt)
-
 -- rows that are refused, and where
 abbrev refused_rows : BatchRefused → Body
 refused_rows why = body.Refused (bad_rows why)
@@ -100,6 +98,10 @@ with_member name d = raw_map (raw_member name d no_raw_members)
 abbrev open_all : Ask
 open_all = ask.open_view (raw_map no_raw_members) 10
 
+-- the rows by their values of `k`, side by side
+abbrev split_by_k : RawData
+split_by_k = with_member (codes "split_by") (raw_list (raw_item (raw_words (codes "k")) no_raw_items))
+
 abbrev header : List HeaderColumn
 header = record { text = codes "k"; kind = Integer } ∷ record { text = codes "v"; kind = Integer } ∷ []
 
@@ -111,6 +113,18 @@ shown_v k v = record { key = Row (Int k); mark = false; cells = (codes "v", Whol
 
 abbrev shows : List ShownRow → Shown
 shows rows = record { header = header; rows = rows }
+
+-- two rows whose values of `k` are 1 and 2, each under its own
+abbrev split_header : List HeaderColumn
+split_header =
+    record { text = codes "1|k"; kind = Integer } ∷ record { text = codes "1|v"; kind = Integer }
+    ∷ record { text = codes "2|k"; kind = Integer } ∷ record { text = codes "2|v"; kind = Integer } ∷ []
+
+abbrev first_split : ℤ → ShownRow
+first_split v = record { key = Row (Int (pos 1)); mark = false; cells = (codes "1|k", Whole (pos 1)) ∷ (codes "1|v", Whole v) ∷ [] }
+
+abbrev second_split : ℤ → ShownRow
+second_split v = record { key = Row (Int (pos 2)); mark = false; cells = (codes "2|k", Whole (pos 2)) ∷ (codes "2|v", Whole v) ∷ [] }
 
 -- ---- a table, a port, a batch of two rows, applied, and a view of them by key
 
@@ -322,11 +336,13 @@ pub second_view : answer roomy with_view (asks open_all) ≡ reply 6 1 (body.Ope
 unfolding value_order
 second_view = refl
 
-pub split_plan : answer roomy with_rows (asks (ask.open_view (with_member (codes "split_by") (raw_list (raw_item (raw_words (codes "k")) no_raw_items))) 10)) ≡ reply 5 1 refused_unbuilt
+pub split_plan : answer roomy with_rows (asks (ask.open_view split_by_k 10))
+    ≡ reply 5 1 (body.Opened 0 (record { header = split_header; rows = first_split (pos 7) ∷ second_split (pos 5) ∷ [] }) 0)
+unfolding value_order digits
 split_plan = refl
 
 pub refused_plan_counts_in_its_session
-    : answer roomy with_rows (by 1 (ask.open_view (with_member (codes "split_by") raw_null) 10) plenty) ≡ reply 1 1 refused_unbuilt
+    : answer roomy with_rows (by 1 (ask.open_view (with_member (codes "split_by") raw_null) 10) plenty) ≡ reply 1 1 (body.Refused plan_form)
 refused_plan_counts_in_its_session = refl
 
 pub plan_of_no_member : answer roomy with_rows (asks (ask.open_view (with_member (codes "sorts") (raw_list no_raw_items)) 10)) ≡ reply 5 1 (body.Refused plan_form)
@@ -701,15 +717,11 @@ edit_of_no_view = refl
 pub edit_by_another : answer roomy with_view (by 1 (ask.edit_view 0 raw_null) plenty) ≡ reply 1 1 (body.Refused no_view)
 edit_by_another = refl
 
--- what isn't built yet is told first, of a view that isn't held too
-pub edit_unbuilt : answer roomy with_rows (edits (with_member (codes "split_by") raw_null)) ≡ reply 5 1 refused_unbuilt
-edit_unbuilt = refl
-
-pub edit_unbuilt_in_its_session : answer roomy with_view (by 1 (ask.edit_view 0 (with_member (codes "split_by") raw_null)) plenty) ≡ reply 1 1 refused_unbuilt
-edit_unbuilt_in_its_session = refl
-
-pub edit_unbuilt_without_table : answer roomy [] (edits (with_member (codes "split_by") raw_null)) ≡ reply 1 0 (body.Refused no_table)
-edit_unbuilt_without_table = refl
+-- splits are columns of another text, so each cell stands at another place
+pub edit_to_splits : answer roomy (edits split_by_k ∷ with_view) (asks (take 0))
+    ≡ reply 7 1 (delta_of_edits 1 (put 0 (first_split (pos 7)) ∷ put 1 (second_split (pos 5)) ∷ []) (Some split_header))
+unfolding value_order digits
+edit_to_splits = refl
 
 pub edit_by_no_plan : answer roomy with_view (edits raw_null) ≡ reply 6 1 (body.Refused plan_form)
 edit_by_no_plan = refl

@@ -3,7 +3,6 @@
 use Rattle.std.specs.Prelude.{ℕ, ◌+◌, ◌-◌, ◌==◌, nat_lt, nat_le, List, [], ◌∷◌, ◌++◌, length, map, take, drop, slice_get, Bool, true, false, not, Option, Some, None, is_some, is_none, option_map, option_and_then, Result, Ok, Err, if◌then◌else◌}
 use Rattle.cell_core.specs.Keepings.{is_indexed}
 use Rattle.cell_core.specs.Limits.{max_rows}
-use Rattle.cell_core.specs.RawData.{RawData}
 use Rattle.cell_core.specs.Schemas.{SchemaData, schema_of, type_name}
 use Rattle.cell_core.specs.declared.cell.Cell.{Cell}
 use Rattle.cell_core.specs.declared.schema.Column.{Column}
@@ -18,7 +17,6 @@ use Rattle.frame_types.specs.Asks.{Ask}
 use Rattle.frame_types.specs.Asks as ask
 use Rattle.frame_types.specs.Refusals.{frame_cause, bad_frame, table_set, bad_schema, too_many_ports, no_port, port_closed, bad_rows, not_indexed, port_full, table_full, history_full, empty, too_many_views, no_view, view_lost, no_row, not_a_group, too_many_open, bad_window, no_table, memory}
 use Rattle.frame_types.specs.declared.reply.Body.{Body}
-use Rattle.frame_types.specs.declared.reply.Cause.TheVariants.{Unbuilt}
 use Rattle.frame_types.specs.declared.reply.Body.TheVariants as body
 use Rattle.frame_types.specs.declared.reply.Refusal.{Refusal}
 use Rattle.plan_types.specs.declared.plan.Plan.{Plan}
@@ -31,7 +29,7 @@ use Rattle.hub_spec.specs.Bases.{delta_in, dirty, shown_in}
 use Rattle.hub_spec.specs.HeldViews.{HeldView, views, held_view, held_by, opened_count, opened_view, shown}
 use Rattle.hub_spec.specs.Limits.{max_waiting, max_ports, max_singles, max_views}
 use Rattle.hub_spec.specs.Ports.{schema as schema_made, ports, has_port, is_closed, used_ports, batches_accepted, taken_count, waiting, all_waiting}
-use Rattle.hub_spec.specs.Plans.{is_unbuilt, plan_asked}
+use Rattle.hub_spec.specs.Plans.{plan_asked}
 use Rattle.hub_spec.specs.Reading.{read_batch, batch_asked}
 use Rattle.hub_spec.specs.Room.{rows_with}
 use Rattle.hub_spec.specs.Rows.{schema_or_none, rows}
@@ -117,10 +115,6 @@ abbrev pub full_of_singles : Option HeldView → List Cell → Option Refusal
 full_of_singles None path = None
 full_of_singles (Some v) path = refused_if (nat_le max_singles (other_singles v.opening path)) too_many_open
 
--- splits aren't built yet
-abbrev pub unbuilt_plan : RawData → Option Refusal
-unbuilt_plan plan = refused_if (is_unbuilt plan) (bad_frame Unbuilt)
-
 -- why there is no plan
 abbrev pub faulty_plan : Result Plan Refusal → Option Refusal
 faulty_plan (Ok plan) = None
@@ -178,12 +172,7 @@ refusals past session (ask.open_view plan bound) =
     ∷ refused_if (nat_le max_views (length (views past))) too_many_views
     ∷ []
 refusals past session (ask.edit_view view plan) =
-    without_table past
-    ∷ unbuilt_plan plan
-    ∷ without_view past session view
-    ∷ lost_view (held_view past session view)
-    ∷ faulty_plan (plan_asked (schema_or_none past) plan)
-    ∷ []
+    view_checks past session view ++ faulty_plan (plan_asked (schema_or_none past) plan) ∷ []
 refusals past session (ask.depth view depth) = view_checks past session view
 refusals past session (ask.expand view path) = group_checks past session view path
 refusals past session (ask.collapse view path) = group_checks past session view path

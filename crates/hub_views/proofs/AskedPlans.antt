@@ -1,10 +1,10 @@
--- A plan that is asked for and built fits a view of its kind.
-use Rattle.std.proofs.Common.{◌≡◌, ℕ, suc, zero, ◌+◌, ◌<◌, ◌≤◌, Bool, true, false, cond, not, ◌||◌, List, [], ◌∷◌, ◌++◌, length, map, All, Option, Some, None, Result, Ok, Err, refl, sym, ap, ◌∙◌, subst, arith, rules, inl, inr, eqb, if◌then◌else◌, length-append}
-use Rattle.std.specs.Prelude.{codes, is_some, nat_eq, nat_lt, option_and_then, option_map, slice_index_or, unwrap_or}
+-- A plan that is asked for fits a view of its kind.
+use Rattle.std.proofs.Common.{◌≡◌, ℕ, suc, zero, ◌+◌, ◌<◌, ◌≤◌, Bool, true, false, cond, not, ◌||◌, List, [], ◌∷◌, ◌++◌, length, map, All, Option, Some, None, Result, Ok, Err, refl, sym, ap, ◌∙◌, subst, arith, rules, inl, inr, eqb, length-append}
+use Rattle.std.specs.Prelude.{is_some, nat_eq, nat_lt, option_and_then, option_map, slice_index_or, unwrap_or}
 use Rattle.std.specs.Map.{lookup}
 use Rattle.std.proofs.lemmas.Bool.{eqb-true}
 use Rattle.std.proofs.lemmas.List.Elements.{All-nil, All-cons, All-head, All-tail}
-use Rattle.cell_core.specs.RawData.{RawData, raw_list, raw_map, no_raw_items, RawMembers, get_raw}
+use Rattle.cell_core.specs.RawData.{RawData}
 use Rattle.cell_core.specs.Schemas.{SchemaData, is_bad_name}
 use Rattle.cell_core.specs.declared.cell.CellType.{CellType}
 use Rattle.cell_core.specs.declared.cell.CellType.TheVariants as kinds
@@ -33,7 +33,7 @@ use Rattle.plan_json.specs.declared.named.NamedText.{NamedText}
 use Rattle.plan_json.specs.declared.words.PlanPart.{PlanPart}
 use Rattle.plan_json.specs.declared.words.PlanPart.TheVariants as part
 use Rattle.plan_json.specs.Plans.{RawPlanData}
-use Rattle.plan_json.specs.Reading.{are_members, filter_of, if_given, list_of, names_of, or_empty, plan_in, plan_of, sort_of, text_of, texts_of}
+use Rattle.plan_json.specs.Reading.{plan_of}
 use Rattle.plan_check.specs.Columns as named
 use Rattle.plan_check.specs.Columns.{aggregates_of, groups_of, known, number_at, numbers_from, place_named, shown_of, splits_of}
 use Rattle.plan_check.specs.Expressions.{expression, expression_at, expressions_of, kind_answer, max_expression, max_expressions, parse_answer, parsed}
@@ -46,13 +46,12 @@ use Rattle.plan_check.specs.declared.columns.ColumnPlace.{ColumnPlace}
 use Rattle.plan_check.specs.declared.refused.PlanFault.{PlanFault}
 use Rattle.view_spec.specs.Columns.{aggregate_at, column_at, is_flat, no_column}
 use Rattle.pivot_tree.specs.Columns.{used_columns}
-use Rattle.frame_types.specs.Refusals.{bad_frame, bad_plan, plan_form}
+use Rattle.frame_types.specs.Refusals.{bad_plan, plan_form}
 use Rattle.frame_types.specs.declared.reply.Body.TheVariants as body
-use Rattle.frame_types.specs.declared.reply.Cause.TheVariants.{Unbuilt}
 use Rattle.frame_types.specs.declared.reply.Refusal.{Refusal}
 use Rattle.hub_spec.specs.Histories.{choice_of, plenty}
-use Rattle.plain_kept.specs.Plans.{IsUnsplitPlan}
-use Rattle.hub_spec.specs.Plans.{is_filled_list, is_unbuilt, plan_asked, plan_checked, plan_read}
+use Rattle.plain_kept.specs.Plans.{IsViewPlan}
+use Rattle.hub_spec.specs.Plans.{plan_asked, plan_checked, plan_read}
 
 -- ---- what was found before what follows
 
@@ -217,26 +216,22 @@ all_of P holds [] = All-nil P
 all_of P holds (x ∷ xs) = All-cons P x xs (holds x) (all_of P holds xs)
 
 -- a plan of parts that were checked
-unsplit_of : (columns : List Column) (plan : Plan) → plan.split_by ≡ [] → All (λ i. i < length (all_columns columns plan.expressions)) plan.columns
-    → All (λ (e : Expression). IsCheckedTree columns (tree_view e.tree) e.kind) plan.expressions → All (IsTakenIn (all_columns columns plan.expressions)) plan.aggregates → IsUnsplitPlan columns plan
-unsplit_of columns plan whole within trees taken = by (is_flat plan) refl
+fit_of : (columns : List Column) (plan : Plan) → All (λ i. i < length (all_columns columns plan.expressions)) plan.columns
+    → All (λ (e : Expression). IsCheckedTree columns (tree_view e.tree) e.kind) plan.expressions → All (IsTakenIn (all_columns columns plan.expressions)) plan.aggregates → IsViewPlan columns plan
+fit_of columns plan within trees taken = by (is_flat plan) refl
   where
-    by : (flat : Bool) → is_flat plan ≡ flat → IsUnsplitPlan columns plan
-    by true flat = inl (record { flat = flat; whole = whole; within = within })
+    by : (flat : Bool) → is_flat plan ≡ flat → IsViewPlan columns plan
+    by true flat = inl (record { flat = flat; within = within })
     by false grouped = inr (record {
       grouped = grouped;
-      whole = whole;
       within = within;
       trees = trees;
       taken = all_of (λ i. takes (aggregate_at columns plan i) (column_at columns plan i).kind ≡ true)
           (λ i. aggregate_taken (all_columns columns plan.expressions) i plan.aggregates taken) (used_columns plan);
     })
 
-no_splits : (columns : List Column) (names : List (List ℕ)) (splits : List ℕ) → names ≡ [] → splits_of columns names ≡ Ok splits → splits ≡ []
-no_splits columns names splits none is = good_same splits [] (sym is ∙ ap (splits_of columns) none)
-
-unsplit_checked : (schema : SchemaData) (raw : RawPlanData) (plan : Plan) → raw.split_by ≡ [] → checked schema raw ≡ Ok plan → IsUnsplitPlan schema.columns plan
-unsplit_checked schema raw plan none is =
+checked_fits : (schema : SchemaData) (raw : RawPlanData) (plan : Plan) → checked schema raw ≡ Ok plan → IsViewPlan schema.columns plan
+checked_fits schema raw plan is =
     let expressions = then_ok (expressions_of schema.columns raw.expressions) _ plan is in
     let columns : List Column = all_columns schema.columns expressions.0 in
     let shown = then_ok (shown_of schema.columns columns raw.columns) _ plan expressions.2 in
@@ -256,59 +251,27 @@ unsplit_checked schema raw plan none is =
       expressions = expressions.0;
     } in
     let same : made ≡ plan = good_same made plan sorts.2 in
-    subst (IsUnsplitPlan schema.columns) {x = made} same
-    (unsplit_of schema.columns made (no_splits columns raw.split_by splits.0 none splits.1) (shown_within schema.columns (map expression_column expressions.0) raw.columns shown.0 shown.1)
+    subst (IsViewPlan schema.columns) {x = made} same
+    (fit_of schema.columns made (shown_within schema.columns (map expression_column expressions.0) raw.columns shown.0 shown.1)
     (each_holds _ (expression_at schema.columns) (tree_checked schema.columns) 0 raw.expressions expressions.0 (unless_ok (nat_lt max_expressions (length raw.expressions)) _ _ expressions.0 expressions.1))
     (each_holds (IsTakenIn columns) (named.aggregate_at columns) (named_taken columns) 0 raw.aggregates aggregates.0 aggregates.1))
 
--- ---- a plan that is built
-
-no_names : (o : Option RawData) (names : List (List ℕ)) → is_filled_list o ≡ false → or_empty names_of o ≡ Some names → names ≡ []
-no_names None names unfilled is = let same : [] ≡ names = cc in sym same
-no_names (Some (raw_list no_raw_items)) names unfilled is = let same : [] ≡ names = cc in sym same
-no_names (Some other) names unfilled is = absurd (let wrong : true ≡ false = unfilled in cc)
-
-splits_written : (ms : RawMembers) (raw : RawPlanData) → plan_in ms ≡ Some raw → or_empty names_of (get_raw (codes "split_by") ms) ≡ Some raw.split_by
-splits_written ms raw is =
-    let columns = then_some (if_given names_of (get_raw (codes "columns") ms)) _ raw is in
-    let groups = then_some (or_empty names_of (get_raw (codes "group_by") ms)) _ raw columns.2 in
-    let splits = then_some (or_empty names_of (get_raw (codes "split_by") ms)) _ raw groups.2 in
-    let aggregates = then_some (or_empty texts_of (get_raw (codes "aggregates") ms)) _ raw splits.2 in
-    let expressions = then_some (or_empty texts_of (get_raw (codes "expressions") ms)) _ raw aggregates.2 in
-    let filters = then_some (or_empty (list_of filter_of) (get_raw (codes "filter") ms)) _ raw expressions.2 in
-    let filter_op = then_some (if_given text_of (get_raw (codes "filter_op") ms)) _ raw filters.2 in
-    let sorts = mapped_some (or_empty (list_of sort_of) (get_raw (codes "sort") ms)) _ raw filter_op.2 in
-    subst (λ (r : RawPlanData). or_empty names_of (get_raw (codes "split_by") ms) ≡ Some r.split_by) sorts.2 splits.1
-
-splits_read : (asked : RawData) (raw : RawPlanData) → is_unbuilt asked ≡ false → plan_of asked ≡ Some raw → raw.split_by ≡ []
-splits_read (raw_map ms) raw built is = by (are_members ms) is
-  where
-    by : (b : Bool) → (if b then plan_in ms else None) ≡ Some raw → raw.split_by ≡ []
-    by true h = no_names (get_raw (codes "split_by") ms) raw.split_by built (splits_written ms raw h)
-    by false h = absurd (cc)
-splits_read _ raw built is = absurd (cc)
+-- ---- a plan that is asked for
 
 checked_ok : (r : Result Plan PlanFault) (plan : Plan) → plan_checked r ≡ Ok plan → r ≡ Ok plan
 checked_ok (Ok p) plan is = let same : p ≡ plan = cc in ap Ok same
 checked_ok (Err why) plan is = absurd (cc)
 
-pub read_is_unsplit : (schema : SchemaData) (asked : RawData) (plan : Plan) → is_unbuilt asked ≡ false → plan_read schema (plan_of asked) ≡ Ok plan → IsUnsplitPlan schema.columns plan
-read_is_unsplit schema asked plan built is = by (plan_of asked) refl is
+pub asked_fits : (schema : SchemaData) (asked : RawData) (plan : Plan) → Ok plan ≡ plan_asked schema asked → IsViewPlan schema.columns plan
+asked_fits schema asked plan is = by (plan_of asked) (sym is)
   where
-    by : (o : Option RawPlanData) → plan_of asked ≡ o → plan_read schema o ≡ Ok plan → IsUnsplitPlan schema.columns plan
-    by None read is = absurd (cc)
-    by (Some raw) read is = unsplit_checked schema raw plan (splits_read asked raw built read) (checked_ok (checked schema raw) plan is)
-
-pub unsplit_asked : (schema : SchemaData) (asked : RawData) (plan : Plan) → Ok plan ≡ plan_asked schema asked → IsUnsplitPlan schema.columns plan
-unsplit_asked schema asked plan is = by (is_unbuilt asked) refl (sym is)
-  where
-    by : (unbuilt : Bool) → is_unbuilt asked ≡ unbuilt → (if unbuilt then Err (bad_frame Unbuilt) else plan_read schema (plan_of asked)) ≡ Ok plan → IsUnsplitPlan schema.columns plan
-    by true built h = absurd (cc)
-    by false built h = read_is_unsplit schema asked plan built h
+    by : (o : Option RawPlanData) → plan_read schema o ≡ Ok plan → IsViewPlan schema.columns plan
+    by None read = absurd (cc)
+    by (Some raw) read = checked_fits schema raw plan (checked_ok (checked schema raw) plan read)
 
 -- why there is no plan is never want of memory
 pub not_wanted : (schema : SchemaData) (asked : RawData) (why : Refusal) → plan_asked schema asked ≡ Err why → choice_of (body.Refused why) ≡ plenty
-not_wanted schema asked why is = by (is_unbuilt asked) is
+not_wanted schema asked why is = read_so (plan_of asked) is
   where
     refused_so : (made other : Refusal) → made ≡ other → eqb made.code 22 ≡ false → choice_of (body.Refused other) ≡ plenty
     refused_so made other same apart = rw (sym (ap (λ (r : Refusal). r.code) same), apart) refl
@@ -320,7 +283,3 @@ not_wanted schema asked why is = by (is_unbuilt asked) is
     read_so : (o : Option RawPlanData) → plan_read schema o ≡ Err why → choice_of (body.Refused why) ≡ plenty
     read_so None h = refused_so plan_form why (let same : plan_form ≡ why = cc in same) refl
     read_so (Some raw) h = checked_so (checked schema raw) h
-
-    by : (unbuilt : Bool) → (if unbuilt then Err (bad_frame Unbuilt) else plan_read schema (plan_of asked)) ≡ Err why → choice_of (body.Refused why) ≡ plenty
-    by true h = refused_so (bad_frame Unbuilt) why (let same : bad_frame Unbuilt ≡ why = cc in same) refl
-    by false h = read_so (plan_of asked) h

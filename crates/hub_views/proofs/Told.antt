@@ -1,5 +1,5 @@
 -- What is answered of the views that are kept.
-use Rattle.std.proofs.Common.{◌≡◌, ℕ, eqb, leb, ltb, Bool, true, false, List, [], ◌∷◌, length, map, filter, find, Option, Some, None, option_map, Ok, Err, refl, sym, ap, ◌∙◌, if◌then◌else◌}
+use Rattle.std.proofs.Common.{◌≡◌, ℕ, eqb, leb, ltb, Bool, true, false, List, [], ◌∷◌, length, map, filter, find, Option, Some, None, option_map, Ok, Err, refl, sym, ap, ◌∙◌}
 use Rattle.std.specs.Prelude.{not, unwrap_or}
 use Rattle.std.proofs.lemmas.List.{length-map}
 use Rattle.cell_core.specs.RawData.{RawData}

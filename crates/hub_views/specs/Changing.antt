@@ -29,7 +29,7 @@ use Rattle.hub_spec.specs.Answers.{faulty_plan, first_of, refused_if}
 use Rattle.hub_spec.specs.HeldViews.{opening_after, to_depth}
 use Rattle.hub_spec.specs.Histories.{choice_of, plenty}
 use Rattle.hub_spec.specs.Limits.{max_singles}
-use Rattle.hub_spec.specs.Plans.{is_unbuilt, plan_asked}
+use Rattle.hub_spec.specs.Plans.{plan_asked}
 use Rattle.hub_views.specs.declared.change.Change.{Change}
 use Rattle.hub_views.specs.declared.change.Change.TheVariants as change
 use Rattle.hub_views.specs.declared.live.LiveView.{LiveView}
@@ -43,11 +43,6 @@ asked_by view (change.Plan asked) = ask.edit_view view (raw_view asked)
 asked_by view (change.Depth depth) = ask.depth view depth
 asked_by view (change.Expand path) = ask.expand view path
 asked_by view (change.Collapse path) = ask.collapse view path
-
--- the change is a plan that isn't built yet
-abbrev pub is_unbuilt_change : Change → Bool
-is_unbuilt_change (change.Plan asked) = is_unbuilt (raw_view asked)
-is_unbuilt_change _ = false
 
 -- ---- what a change makes of a view
 

@@ -3,10 +3,10 @@ ghost use Rattle.cell_core.specs.RawViews.{raw_view};
 ghost use Rattle.view_types.specs.declared.key.ViewKey.{ViewKey as KeyData};
 ghost use Rattle.delta_core.specs.DirtySets.{dirty_of};
 ghost use Rattle.delta_core.specs.declared.touched.Touch.{Touch};
-ghost use Rattle.plain_kept.specs.Plans.{IsUnsplitPlan};
+ghost use Rattle.plain_kept.specs.Plans.{IsViewPlan};
 ghost use Rattle.hub_spec.specs.Giving.{IsOfViews};
-ghost use Rattle.hub_spec.specs.Plans.{is_unbuilt, plan_asked};
-ghost use Rattle.hub_views.specs.Changing.{AnswersChange, HasOpening, IsGroupChecked, IsReplanned, deepened, effect_of, is_unbuilt_change, opened_to, replanned};
+ghost use Rattle.hub_spec.specs.Plans.{plan_asked};
+ghost use Rattle.hub_views.specs.Changing.{AnswersChange, HasOpening, IsGroupChecked, IsReplanned, deepened, effect_of, opened_to, replanned};
 ghost use Rattle.hub_views.specs.Live.{fresh_live, live_data, live_take_answer, rebased_live};
 ghost use Rattle.hub_views.specs.Refreshing.{IsBrought};
 
@@ -118,7 +118,6 @@ impl LiveView {
         table: &Table,
         steps: &mut Steps<L>,
     ) -> Result<u64, Refusal>
-        requires { is_unbuilt_change change.now ≡ false }
         ensures { AnswersChange (effect_of table.now.schema change.now) table.now self.old self.new result }
     {
         match change {
@@ -137,7 +136,6 @@ impl LiveView {
         table: &Table,
         steps: &mut Steps<L>,
     ) -> Result<u64, Refusal>
-        requires { is_unbuilt (raw_view plan.now) ≡ false }
         ensures { AnswersChange (replanned table.now.schema.columns (plan_asked table.now.schema (raw_view plan.now))) table.now self.old self.new result }
     {
         let plan = plan_asked(alloc, table.schema(), plan)??;
@@ -187,7 +185,7 @@ impl LiveView {
         table: &Table,
         steps: &mut Steps<L>,
     ) -> Result<(), Memory>
-        requires { IsUnsplitPlan table.now.schema.columns plan }
+        requires { IsViewPlan table.now.schema.columns plan }
         ensures ok { OnOk result (IsReplanned plan table.now self.old self.new) }
         ensures err { OnErr result (self.new ≡ self.old) }
     {

@@ -1,6 +1,5 @@
 ghost use Rattle.std.specs.Prelude.{◌≡◌};
 ghost use Rattle.frame_types.specs.Refusals as refusals;
-ghost use Rattle.frame_types.specs.declared.reply.Cause.TheVariants as cause;
 
 use crate::views::MAX_VIEWS;
 use cell_core::Numbers;
@@ -12,13 +11,6 @@ fn refused(code: u8, cause: Cause, at: Numbers) -> Refusal
     ensures { result ≡ record { code = code; cause = cause; at = at } }
 {
     Refusal { code, cause, at }
-}
-
-/// Splits aren't built yet.
-pub fn unbuilt() -> Refusal
-    ensures { result ≡ refusals.bad_frame cause.Unbuilt }
-{
-    refused(1, Cause::Unbuilt, Numbers::Zero)
 }
 
 /// The plan is no object of a plan's members.

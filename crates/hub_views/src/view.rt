@@ -1,5 +1,5 @@
 ghost use Rattle.std.specs.Prelude.{◌≡◌, false};
-ghost use Rattle.hub_views.specs.Changing.{AnswersChangeOf, effect_of, is_unbuilt_change};
+ghost use Rattle.hub_views.specs.Changing.{AnswersChangeOf, effect_of};
 ghost use Rattle.hub_views.specs.Live.{rebased, rebased_at};
 ghost use Rattle.hub_views.specs.Refreshing.{IsRefreshed, is_loss};
 
@@ -50,7 +50,6 @@ impl View {
         table: &Table,
         steps: &mut Steps<L>,
     ) -> Result<u64, Refusal>
-        requires { is_unbuilt_change change.now ≡ false }
         ensures { AnswersChangeOf (effect_of table.now.schema change.now) table.now self.old self.new result }
     {
         match &mut self.state {

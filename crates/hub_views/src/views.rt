@@ -3,7 +3,7 @@ ghost use Rattle.cell_core.specs.RawViews.{raw_view};
 ghost use Rattle.frame_types.specs.Asks.{Ask};
 ghost use Rattle.frame_types.specs.Asks as ask;
 ghost use Rattle.frame_types.specs.Limits.{sessions};
-ghost use Rattle.plain_kept.specs.Plans.{IsUnsplitPlan};
+ghost use Rattle.plain_kept.specs.Plans.{IsViewPlan};
 ghost use Rattle.hub_spec.specs.Giving.{AfterEach, AnswersAfter, IsOfViews, body_in, with_step};
 ghost use Rattle.hub_spec.specs.Ports as ports;
 ghost use Rattle.hub_views.specs.Changing.{asked_by};
@@ -102,7 +102,7 @@ impl Views {
         steps: &mut Steps<L>,
     ) -> Result<Body, Memory>
         requires session { session < sessions }
-        requires fits { IsUnsplitPlan table.now.schema.columns plan }
+        requires fits { IsViewPlan table.now.schema.columns plan }
         ensures ok { AfterEach (HoldsViews self.old table.now) (λ past. HoldsTable table.now version past → length past < 2 ^ 53
             → IfOk result (λ answer. IsOpened past session plan bound answer (HoldsViews self.new table.now))) }
         ensures about { (at : ℕ) → IfOk result (IsOfViews at) }
@@ -140,9 +140,6 @@ impl Views {
             session (asked_by view change.now) (body_in result) (HoldsViews self.new table.now) }
         ensures about { (at : ℕ) → IsOfViews at (body_in result) }
     {
-        if change.is_unbuilt() {
-            return Err(refused::unbuilt());
-        }
         let Some(place) = place_of(self.items.as_slice(), session, view) else {
             return Err(refused::no_view());
         };

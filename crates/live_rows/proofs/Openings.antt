@@ -1,5 +1,5 @@
 -- A flat view shows the same under every opening.
-use Rattle.std.proofs.Common.{◌≡◌, Bool, true, List, [], map, filter, refl, sym, ap, ◌∙◌, subst, if◌then◌else◌}
+use Rattle.std.proofs.Common.{◌≡◌, true, List, [], map, filter, sym, ap, ◌∙◌, subst, if◌then◌else◌}
 use Rattle.std.specs.Prelude.{not}
 use Rattle.plain_data.specs.Sorting.{sorted_by}
 use Rattle.cell_core.specs.declared.schema.Column.{Column}
@@ -20,8 +20,8 @@ use Rattle.view_spec.specs.Views.{Side, by_place, placed, placed_group, placed_r
 use Rattle.view_spec.proofs.LiveLaws.{placed-IsPermutation, view-IsPermutation}
 use Rattle.view_spec.proofs.TouchLaws.{touched_keys-itself}
 use Rattle.view_kept.specs.Steps.{IsOfTable, side_of, touched_between}
-use Rattle.flat_show.specs.Plans.{IsFlatPlan}
 use Rattle.flat_live.specs.Flat.{StandsFlat}
+use Rattle.flat_live.specs.Plans.{IsLivePlan}
 use Rattle.flat_live.specs.declared.live.FlatLive.{FlatLive}
 
 abbrev side_by : List Column → Plan → Opening → List Pair → Side
@@ -47,15 +47,15 @@ flat_header s opening t of =
 pub flat_stands : (v : FlatLive) (s : Side) (opening : Opening) (t : TableData) → StandsFlat v s → IsOfTable s t → StandsFlat v (side_of s.plan opening t)
 flat_stands v s opening t h of = record {
   plan = h.plan;
-  fits = subst (λ cs. IsFlatPlan cs s.plan) (sym of.columns) h.fits;
+  fits = subst (λ cs. IsLivePlan cs s.plan) (sym of.columns) h.fits;
   header = h.header ∙ flat_header s opening t of;
-  rows = h.rows ∙ flat_placed s opening t h.fits.flat of;
+  rows = h.rows ∙ flat_placed s opening t h.fits.flat.flat of;
 }
 
 -- so another opening touches nothing
 pub flat_keys : (v : FlatLive) (s : Side) (opening : Opening) (t : TableData) → StandsFlat v s → IsOfTable s t → [] ≡ touched_between s (side_of s.plan opening t)
 flat_keys v s opening t h of =
-    sym (ap (λ ps. marked (view s).rows (touched_keys (placed s) ps)) (sym (flat_placed s opening t h.fits.flat of)) ∙ ap (marked (view s).rows) (touched_keys-itself (placed s)))
+    sym (ap (λ ps. marked (view s).rows (touched_keys (placed s) ps)) (sym (flat_placed s opening t h.fits.flat.flat of)) ∙ ap (marked (view s).rows) (touched_keys-itself (placed s)))
 
 pub flat_head : (s : Side) (opening : Opening) (t : TableData) → IsOfTable s t → head_touched s (side_of s.plan opening t) ≡ head_touched s s
 flat_head s opening t of = ap (λ h. not (same_header (view s).header h)) (sym (flat_header s opening t of))

@@ -1,8 +1,8 @@
 ghost use Rattle.std.specs.Prelude.{◌≡◌, IfOk};
 ghost use Rattle.view_kept.specs.Steps.{side_of};
-ghost use Rattle.view_spec.specs.Columns.{is_flat};
-ghost use Rattle.plain_kept.specs.Plans.{IsUnsplitPlan};
+ghost use Rattle.plain_kept.specs.Plans.{IsViewPlan};
 ghost use Rattle.live_rows.specs.Live.{StandsLive};
+ghost use Rattle.live_rows.specs.Plans.{is_live};
 
 use crate::live::LiveRows;
 use cell_core::{Memory, Steps};
@@ -12,7 +12,7 @@ use std::sync::ledger::Ledger;
 use table_core::Table;
 use view_shape::OpenState;
 
-/// The rows of the view of a table's rows by a plan without splits. `steps` counts the visits of rows and groups.
+/// The rows of the view of a table's rows by a plan. `steps` counts the visits of rows and groups.
 ///
 /// Want of memory is the only refusal.
 pub fn build<L: Ledger>(
@@ -22,20 +22,20 @@ pub fn build<L: Ledger>(
     table: &Table,
     steps: &mut Steps<L>,
 ) -> Result<LiveRows, Memory>
-    requires { IsUnsplitPlan table.now.schema.columns plan }
+    requires { IsViewPlan table.now.schema.columns plan }
     ensures { IfOk result (λ rows. StandsLive rows (side_of plan opening.now table.now)) }
 {
-    if has_no_groups(&plan) {
+    if is_live(&plan) {
         Ok(LiveRows::Flat(flat_live::build(alloc, plan, table, steps)?))
     } else {
         let view = plain_kept::build(alloc, plan, opening, table, steps)?;
-        Ok(LiveRows::Groups(view))
+        Ok(LiveRows::Plain(view))
     }
 }
 
-/// Whether a view by a plan is flat.
-pub(crate) fn has_no_groups(plan: &Plan) -> bool
-    ensures { result ≡ is_flat plan.now }
+/// Whether a view by a plan is kept by the changes: whether it has neither groups nor splits.
+pub(crate) fn is_live(plan: &Plan) -> bool
+    ensures { result ≡ is_live plan.now }
 {
-    plan.group_by.as_slice().is_empty()
+    plan.group_by.as_slice().is_empty() && plan.split_by.as_slice().is_empty()
 }

@@ -1,4 +1,4 @@
-use crate::turning::{after_flat, after_groups};
+use crate::turning::{after_flat, after_plain};
 use cell_core::{Memory, Steps};
 use delta_core::{ShownNow, Touched};
 use flat_live::FlatLive;
@@ -12,12 +12,12 @@ use view_kept::KeptView;
 use view_shape::OpenState;
 use view_types::{Header, ShownRow, ShownRows, ViewKey};
 
-/// The rows of a view, kept in the way that its plan allows: those of a flat view by the changes of the table's rows,
-/// those of a view with groups computed anew at each step.
+/// The rows of a view, kept in the way that its plan allows: those of a flat view without splits by the changes of the
+/// table's rows, those of any other computed anew at each step.
 #[derive(Drop)]
 pub enum LiveRows {
     Flat(FlatLive),
-    Groups(PlainView),
+    Plain(PlainView),
 }
 
 impl LiveRows {
@@ -33,12 +33,12 @@ impl LiveRows {
     {
         match self {
             LiveRows::Flat(view) => &view.plan,
-            LiveRows::Groups(view) => view.plan(),
+            LiveRows::Plain(view) => view.plan(),
         }
     }
 
-    /// The view of the same rows by the same plan and another opening, and what that touches; none where it is flat, since a
-    /// flat view shows the same under every opening. This view stays as it is.
+    /// The view of the same rows by the same plan and another opening, and what that touches; none where it is kept by the
+    /// changes, since a flat view shows the same under every opening. This view stays as it is.
     ///
     /// Want of memory is the only refusal.
     pub fn reopened<L: Ledger>(
@@ -57,9 +57,9 @@ impl LiveRows {
     {
         match self {
             LiveRows::Flat(_) => Ok(None),
-            LiveRows::Groups(view) => {
+            LiveRows::Plain(view) => {
                 let other = view.reopened(alloc, opening, table, touched, steps)?;
-                Ok(Some(LiveRows::Groups(other)))
+                Ok(Some(LiveRows::Plain(other)))
             }
         }
     }
@@ -73,21 +73,21 @@ impl ShownNow for LiveRows {
     fn position(&self, key: &ViewKey) -> Option<usize> {
         match self {
             LiveRows::Flat(view) => view.position(key),
-            LiveRows::Groups(view) => view.position(key),
+            LiveRows::Plain(view) => view.position(key),
         }
     }
 
     fn row(&self, alloc: Global, key: &ViewKey) -> Result<Option<ShownRow>, Memory> {
         match self {
             LiveRows::Flat(view) => view.row(alloc, key),
-            LiveRows::Groups(view) => view.row(alloc, key),
+            LiveRows::Plain(view) => view.row(alloc, key),
         }
     }
 
     fn header(&self, alloc: Global) -> Result<Header, Memory> {
         match self {
             LiveRows::Flat(view) => view.header(alloc),
-            LiveRows::Groups(view) => view.header(alloc),
+            LiveRows::Plain(view) => view.header(alloc),
         }
     }
 }
@@ -104,14 +104,14 @@ impl KeptView for LiveRows {
     fn len(&self) -> usize {
         match self {
             LiveRows::Flat(view) => view.len(),
-            LiveRows::Groups(view) => view.len(),
+            LiveRows::Plain(view) => view.len(),
         }
     }
 
     fn window(&self, alloc: Global, from: u64, to: u64) -> Result<ShownRows, Memory> {
         match self {
             LiveRows::Flat(view) => view.window(alloc, from, to),
-            LiveRows::Groups(view) => view.window(alloc, from, to),
+            LiveRows::Plain(view) => view.window(alloc, from, to),
         }
     }
 
@@ -125,7 +125,7 @@ impl KeptView for LiveRows {
     ) -> Result<(), Memory> {
         match self {
             LiveRows::Flat(view) => view.apply(alloc, table, changes, touched, steps),
-            LiveRows::Groups(view) => view.apply(alloc, table, changes, touched, steps),
+            LiveRows::Plain(view) => view.apply(alloc, table, changes, touched, steps),
         }
     }
 
@@ -140,8 +140,8 @@ impl KeptView for LiveRows {
     ) -> Result<LiveRows, Memory> {
         match self {
             LiveRows::Flat(view) => after_flat(alloc, view, plan, opening, table, touched, steps),
-            LiveRows::Groups(view) => {
-                after_groups(alloc, view, plan, opening, table, touched, steps)
+            LiveRows::Plain(view) => {
+                after_plain(alloc, view, plan, opening, table, touched, steps)
             }
         }
     }

@@ -5,10 +5,10 @@ ghost use Rattle.view_spec.specs.Views.{Side};
 ghost use Rattle.flat_live.specs.Flat.{StandsFlat};
 ghost use Rattle.flat_live.specs.Rows.{as_placed};
 ghost use Rattle.plain_kept.specs.Plain.{StandsPlain};
-ghost use Rattle.plain_kept.specs.Plans.{IsUnsplitPlan};
+ghost use Rattle.plain_kept.specs.Plans.{IsViewPlan};
 ghost use Rattle.live_rows.specs.Live.{StandsLive};
 
-use crate::building::has_no_groups;
+use crate::building::is_live;
 use crate::live::LiveRows;
 use cell_core::{Copies, Memory, Steps};
 use delta_core::Touched;
@@ -21,7 +21,7 @@ use table_core::Table;
 use view_kept::KeptView;
 use view_shape::OpenState;
 
-/// The view of the same rows by another plan, after a flat one, and what that touches.
+/// The view of the same rows by another plan, after one that is kept by the changes, and what that touches.
 pub(crate) fn after_flat<L: Ledger>(
     alloc: Global,
     view: &FlatLive,
@@ -31,25 +31,25 @@ pub(crate) fn after_flat<L: Ledger>(
     touched_now: &mut Touched,
     steps: &mut Steps<L>,
 ) -> Result<LiveRows, Memory>
-    requires fit { IsUnsplitPlan table.now.schema.columns plan }
+    requires fit { IsViewPlan table.now.schema.columns plan }
     requires empty { touched_now.old.keys ≡ [] }
     requires clear { touched_now.old.header ≡ false }
     ensures stands { IfOk result (λ other. StandsLive other (side_of plan opening.now table.now)) }
     ensures keys { (s : Side) → StandsFlat view.now s → IsOfTable s table.now → OnOk result (touched_now.new.keys ≡ touched_between s (side_of plan opening.now table.now)) }
     ensures header { (s : Side) → StandsFlat view.now s → IsOfTable s table.now → OnOk result (touched_now.new.header ≡ head_touched s (side_of plan opening.now table.now)) }
 {
-    if has_no_groups(&plan) {
+    if is_live(&plan) {
         let other = view.reshape(alloc, plan, opening, table, touched_now, steps)?;
         return Ok(LiveRows::Flat(other));
     }
     let was = keyed_of(alloc, view)?;
     let other = plain_kept::build(alloc, plan, opening, table, steps)?;
     *touched_now = touched(alloc, &was, other.keyed())?;
-    Ok(LiveRows::Groups(other))
+    Ok(LiveRows::Plain(other))
 }
 
-/// The view of the same rows by another plan, after one with groups, and what that touches.
-pub(crate) fn after_groups<L: Ledger>(
+/// The view of the same rows by another plan, after one that is computed anew, and what that touches.
+pub(crate) fn after_plain<L: Ledger>(
     alloc: Global,
     view: &PlainView,
     plan: Plan,
@@ -58,16 +58,16 @@ pub(crate) fn after_groups<L: Ledger>(
     touched_now: &mut Touched,
     steps: &mut Steps<L>,
 ) -> Result<LiveRows, Memory>
-    requires fit { IsUnsplitPlan table.now.schema.columns plan }
+    requires fit { IsViewPlan table.now.schema.columns plan }
     requires empty { touched_now.old.keys ≡ [] }
     requires clear { touched_now.old.header ≡ false }
     ensures stands { IfOk result (λ other. StandsLive other (side_of plan opening.now table.now)) }
     ensures keys { (s : Side) → StandsPlain view.now s → IsOfTable s table.now → OnOk result (touched_now.new.keys ≡ touched_between s (side_of plan opening.now table.now)) }
     ensures header { (s : Side) → StandsPlain view.now s → IsOfTable s table.now → OnOk result (touched_now.new.header ≡ head_touched s (side_of plan opening.now table.now)) }
 {
-    if !has_no_groups(&plan) {
+    if !is_live(&plan) {
         let other = view.reshape(alloc, plan, opening, table, touched_now, steps)?;
-        return Ok(LiveRows::Groups(other));
+        return Ok(LiveRows::Plain(other));
     }
     let other = flat_live::build(alloc, plan, table, steps)?;
     let now = keyed_of(alloc, &other)?;
@@ -75,7 +75,7 @@ pub(crate) fn after_groups<L: Ledger>(
     Ok(LiveRows::Flat(other))
 }
 
-/// What a flat view shows, asked by key.
+/// What a view that is kept by the changes shows, asked by key.
 fn keyed_of(alloc: Global, view: &FlatLive) -> Result<KeyedView, Memory>
     ensures header { IfOk result (λ keyed. keyed.header ≡ view.now.header) }
     ensures rows { IfOk result (λ keyed. keyed.rows ≡ map (as_placed view.now.header) view.now.rows) }

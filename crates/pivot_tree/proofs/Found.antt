@@ -59,9 +59,9 @@ node_found columns plan tree rows (c ∷ cs) o some is h =
 
 -- ---- the values with which paths go on
 
-any-keys : {X : Type 0} (t : Cell → Bool) (es : List (Cell × X)) → list_any t (keys_of es) ≡ is_some (lookup t es)
+pub any-keys : {K X : Type 0} (t : K → Bool) (es : List (K × X)) → list_any t (keys_of es) ≡ is_some (lookup t es)
 any-keys t [] = refl
-any-keys {X} t (e ∷ es) = by (t e.0) (any-keys t es)
+any-keys {K} {X} t (e ∷ es) = by (t e.0) (any-keys t es)
   where
     by : (b : Bool) → list_any t (keys_of es) ≡ is_some (lookup t es) → (b || list_any t (keys_of es)) ≡ is_some (if b then Some e.1 else lookup t es)
     by true later = refl

@@ -9,3 +9,4 @@ pub mod TreeSteps
 pub mod Found
 pub mod Building
 pub mod UsedSteps
+pub mod SplitPaths

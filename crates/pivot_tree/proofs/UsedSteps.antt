@@ -1,19 +1,17 @@
 -- The aggregates of the columns that a plan uses, column by column.
-use Rattle.std.proofs.Common.{◌≡◌, ℕ, zero, suc, ◌+◌, ◌-◌, ◌<◌, ◌≤◌, Bool, true, false, List, [], ◌∷◌, ◌++◌, append_assoc, map, take, get_or, length, Option, Some, None, refl, sym, ap, ◌∙◌, subst}
-use Rattle.std.specs.Prelude.{◌||◌, All, nat_eq, if◌then◌else◌, slice_get, slice_index_or}
+use Rattle.std.proofs.Common.{◌≡◌, ℕ, ◌+◌, ◌<◌, Bool, true, false, List, [], ◌∷◌, ◌++◌, append_assoc, map, take, get_or, length, Option, Some, None, refl, sym, ap, ◌∙◌, subst}
+use Rattle.std.specs.Prelude.{◌||◌, All, nat_eq, if◌then◌else◌}
 use Rattle.std.specs.Option.{is_some}
-use Rattle.std.proofs.lemmas.List.{get_or-append_right, map-append, take_more}
+use Rattle.std.proofs.lemmas.List.{map-append, take_more}
 use Rattle.std.proofs.lemmas.Bool.{eq-eqb, eqb-true}
 use Rattle.std.proofs.lemmas.List.Elements.{All-nil, All-cons, All-append, All-head, All-tail, All-weaker}
 use Rattle.std.proofs.lemmas.List.Folds.{list_any-append}
 use Rattle.cell_core.specs.declared.schema.Column.{Column}
 use Rattle.plan_types.specs.declared.aggregate.AggName.{AggName}
-use Rattle.plan_types.specs.declared.plan.Expression.{Expression}
 use Rattle.plan_types.specs.declared.plan.Named.{Named}
 use Rattle.plan_types.specs.declared.plan.Plan.{Plan}
 use Rattle.plan_types.specs.declared.plan.Sort.{Sort}
-use Rattle.plan_types.specs.Columns.{expression_column}
-use Rattle.view_spec.specs.Columns.{aggregate_at, column_at, no_column}
+use Rattle.view_spec.specs.Columns.{aggregate_at}
 use Rattle.pivot_tree.specs.Columns.{HaveAggregates, aggregate_in, is_among}
 
 -- ---- look-ups among named aggregates
@@ -137,14 +135,3 @@ next_sort numbers items sorts i s same lt =
     append_assoc numbers (map (λ (s : Sort). s.column) (take i sorts)) ((get_or items i s).column ∷ [])
     ∙ ap (λ ns. numbers ++ ns) (subst (λ ss. map (λ (s : Sort). s.column) (take i ss) ++ (get_or items i s).column ∷ [] ≡ map (λ (s : Sort). s.column) (take (i + 1) ss)) same
     (sym (ap (map (λ (s : Sort). s.column)) (take_more items i s lt) ∙ map-append (λ (s : Sort). s.column) (take i items) (get_or items i s ∷ []))))
-
--- ---- a column that isn't there
-
-none_past : (es : List Expression) (k : ℕ) → None ≡ slice_get es k → slice_index_or (map expression_column es) k no_column ≡ no_column
-none_past [] k h = refl
-none_past (e ∷ es) zero h = absurd (cc)
-none_past (e ∷ es) (suc k) h = none_past es k h
-
-pub column_past : (columns : List Column) (plan : Plan) (i : ℕ) → length columns ≤ i → None ≡ slice_get plan.expressions (i - length columns) → column_at columns plan i ≡ no_column
-column_past columns plan i far h =
-    get_or-append_right columns (map expression_column plan.expressions) (length columns) i no_column refl far ∙ none_past plan.expressions (i - length columns) h

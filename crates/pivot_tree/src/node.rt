@@ -9,6 +9,7 @@ ghost use Rattle.row_batch.specs.declared.batch.Pair.{Pair};
 ghost use Rattle.plan_types.specs.declared.plan.Named.{Named as NamedData};
 ghost use Rattle.plan_types.specs.declared.plan.Plan.{Plan as PlanData};
 ghost use Rattle.view_spec.specs.Members.{members, within};
+ghost use Rattle.view_spec.specs.Paths.{path_order};
 ghost use Rattle.view_spec.specs.Places.{rows_value};
 ghost use Rattle.pivot_tree.specs.Groups.{CanPut, HasRow, with_row, without_row};
 
@@ -135,5 +136,17 @@ impl Node {
             cells.push(cell.copy(alloc)?)?;
         }
         Ok(cells)
+    }
+
+    /// The split paths of members, ascending; none where nothing is split.
+    pub(crate) fn split_paths(&self, alloc: Global) -> Result<Vec<Path>, Memory>
+        ensures paths { IfOk result (λ paths. paths.items ≡ keys_of self.now.splits.entries) }
+        ensures ascend { IsStrictlySortedBy path_order (keys_of self.now.splits.entries) }
+    {
+        let mut paths = Vec::new(alloc);
+        for (path, _) in &self.splits {
+            paths.push(path.copy(alloc)?)?;
+        }
+        Ok(paths)
     }
 }

@@ -9,6 +9,7 @@ ghost use Rattle.row_batch.specs.Batches.{pair_of};
 ghost use Rattle.row_batch.specs.declared.batch.Pair.{Pair};
 ghost use Rattle.plan_types.specs.declared.plan.Plan.{Plan as PlanData};
 ghost use Rattle.view_spec.specs.Entries.{is_there};
+ghost use Rattle.view_spec.specs.Members.{splits as splits_of};
 ghost use Rattle.pivot_tree.specs.Groups.{HasRow, with_row, without_row};
 
 use crate::level::{Nodes, add_below, take_below};
@@ -141,6 +142,19 @@ impl PivotTree {
             Some(node) => node.next_values(alloc),
             None => Ok(Cells::new(alloc)),
         }
+    }
+
+    /// The split paths of the kept rows, ascending; one empty path where nothing is split. No visit is counted.
+    pub fn splits(&self, alloc: Global) -> Result<Vec<Path>, Memory>
+        ensures { IfOk result (λ paths. (columns : List ColumnData) (plan : PlanData) (rows : List Pair) → IsTreeOf columns plan self.now rows
+            → paths.items ≡ splits_of plan rows) }
+    {
+        if !self.split_by.is_empty() {
+            return self.total.split_paths(alloc);
+        }
+        let mut paths = Vec::new(alloc);
+        paths.push(Path::new(alloc))?;
+        Ok(paths)
     }
 
     fn find(&self, path: &Path) -> Option<&Node>

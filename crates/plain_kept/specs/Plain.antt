@@ -9,7 +9,7 @@ use Rattle.view_spec.specs.Laws.{HasKeys}
 use Rattle.view_spec.specs.Openings.{Opening}
 use Rattle.view_spec.specs.Views.{Side, placed, view}
 use Rattle.view_kept.specs.Parts.{shown_by_parts}
-use Rattle.plain_kept.specs.Plans.{IsUnsplitPlan}
+use Rattle.plain_kept.specs.Plans.{IsViewPlan}
 use Rattle.plain_kept.specs.declared.keyed.KeyedView.{KeyedView}
 
 -- the table's columns, the plan and the opening that it is a view by, and what it shows
@@ -27,12 +27,12 @@ pub record StandsPlain (v : PlainData) (s : Side) : Type 0 where
   pub columns : v.columns ≡ s.columns
   pub plan : v.plan ≡ s.plan
   pub opening : v.opening ≡ s.opening
-  pub fits : IsUnsplitPlan s.columns s.plan
+  pub fits : IsViewPlan s.columns s.plan
   pub header : v.shown.header ≡ (view s).header
   pub rows : v.shown.rows ≡ placed s
 
 abbrev pub fits_plain : PlainData → Plan → TableData → Type 0
-fits_plain v plan table = IsUnsplitPlan table.schema.columns plan
+fits_plain v plan table = IsViewPlan table.schema.columns plan
 
 -- a step may count any visits
 abbrev pub counts_plain : PlainData → List RowChange → TableData → ℕ → ℕ → Type 0

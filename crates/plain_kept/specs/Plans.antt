@@ -1,10 +1,10 @@
--- Plans without splits.
+-- Plans of views.
 use Rattle.std.specs.Prelude.{◌⊎◌, List}
 use Rattle.cell_core.specs.declared.schema.Column.{Column}
 use Rattle.plan_types.specs.declared.plan.Plan.{Plan}
 use Rattle.flat_show.specs.Plans.{IsFlatPlan}
 use Rattle.group_show.specs.Plans.{IsGroupedPlan}
 
--- a plan without splits, with or without groups, that fits a schema's columns
-abbrev pub IsUnsplitPlan : List Column → Plan → Type 0
-IsUnsplitPlan columns plan = IsFlatPlan columns plan ⊎ IsGroupedPlan columns plan
+-- a plan, with or without groups, that fits a schema's columns
+abbrev pub IsViewPlan : List Column → Plan → Type 0
+IsViewPlan columns plan = IsFlatPlan columns plan ⊎ IsGroupedPlan columns plan

@@ -5,7 +5,7 @@ ghost use Rattle.view_kept.specs.Steps.{side_of};
 ghost use Rattle.view_spec.specs.Touching.{key_of};
 ghost use Rattle.view_spec.specs.Views.{placed, view};
 ghost use Rattle.view_spec.specs.declared.placed.PlacedRow.{PlacedRow as PlacedData};
-ghost use Rattle.plain_kept.specs.Plans.{IsUnsplitPlan};
+ghost use Rattle.plain_kept.specs.Plans.{IsViewPlan};
 
 use cell_core::{Copies, Memory, Steps};
 use flat_show::{PlacedRows, show_placed};
@@ -99,8 +99,8 @@ pub struct KeyedView {
     pub rows: KeyedRows,
 }
 
-/// What a view without splits shows of the table's rows, asked by key. A flat plan shows rows, and one with groups the
-/// groups that the opening shows. `steps` counts the visits of rows and groups.
+/// What a view shows of the table's rows, asked by key. A flat plan shows rows, and one with groups the groups that the
+/// opening shows. `steps` counts the visits of rows and groups.
 ///
 /// Want of memory is the only refusal.
 pub fn show_keyed<L: Ledger>(
@@ -110,7 +110,7 @@ pub fn show_keyed<L: Ledger>(
     table: &Table,
     steps: &mut Steps<L>,
 ) -> Result<KeyedView, Memory>
-    requires { IsUnsplitPlan table.now.schema.columns plan.now }
+    requires { IsViewPlan table.now.schema.columns plan.now }
     ensures header { IfOk result (λ shown. shown.header ≡ (view (side_of plan.now opening.now table.now)).header) }
     ensures rows { IfOk result (λ shown. shown.rows ≡ placed (side_of plan.now opening.now table.now)) }
 {

@@ -2,9 +2,8 @@ ghost use Rattle.std.specs.Prelude.{◌≡◌, ◌-◌, IfOk, drop, map, take};
 ghost use Rattle.view_kept.specs.Steps.{side_of};
 ghost use Rattle.view_spec.specs.declared.placed.PlacedRow.{PlacedRow as PlacedData};
 ghost use Rattle.plain_kept.specs.Plain.{StandsPlain};
-ghost use Rattle.plain_kept.specs.Plans.{IsUnsplitPlan};
+ghost use Rattle.plain_kept.specs.Plans.{IsViewPlan};
 
-use crate::columns::{columns_copied, same_columns};
 use crate::keyed::{KeyedView, show_keyed};
 use crate::touching::touched;
 use cell_core::{Column, Copies, Listed, Memory, Steps};
@@ -15,12 +14,13 @@ use std::alloc::Global;
 use std::marker::Model;
 use std::sync::ledger::Ledger;
 use table_core::Table;
+use view_columns::{columns_copied, same_columns};
 use view_kept::KeptView;
 use view_shape::OpenState;
 use view_spec::PlacedRow;
 use view_types::{Header, ShownRow, ShownRows, ViewKey};
 
-/// A view without splits, flat or with groups, that is computed anew at each step.
+/// A view, flat or with groups, that is computed anew at each step.
 ///
 /// It has a copy of the table's columns, since its plan fits those.
 #[derive(Drop)]
@@ -35,7 +35,7 @@ impl Model for PlainView {
     ghost use Rattle.std.specs.Coded.{codes};
     ghost use Rattle.plan_types.specs.contracts.tree.TreeNode as node;
     ghost use Rattle.plain_kept.specs.Plain.{PlainData};
-    ghost use Rattle.plain_kept.specs.Plans.{IsUnsplitPlan};
+    ghost use Rattle.plain_kept.specs.Plans.{IsViewPlan};
 
     ghost Value = { PlainData };
 
@@ -43,7 +43,7 @@ impl Model for PlainView {
 
     ghost view = { λ v. record { columns = v.columns.items; plan = v.plan; opening = v.opening; shown = v.shown } };
 
-    ghost invariant = { λ v. IsUnsplitPlan v.columns.items v.plan };
+    ghost invariant = { λ v. IsViewPlan v.columns.items v.plan };
 }
 
 impl PlainView {
@@ -168,7 +168,7 @@ impl KeptView for PlainView {
     ghost shows = { shows_plain };
 }
 
-/// The view of the table's rows by a plan without splits and an opening. `steps` counts the visits of rows and groups.
+/// The view of the table's rows by a plan and an opening. `steps` counts the visits of rows and groups.
 ///
 /// Want of memory is the only refusal.
 pub fn build<L: Ledger>(
@@ -178,7 +178,7 @@ pub fn build<L: Ledger>(
     table: &Table,
     steps: &mut Steps<L>,
 ) -> Result<PlainView, Memory>
-    requires { IsUnsplitPlan table.now.schema.columns plan }
+    requires { IsViewPlan table.now.schema.columns plan }
     ensures { IfOk result (λ view. StandsPlain view (side_of plan opening.now table.now)) }
 {
     let columns = columns_copied(alloc, table.schema().columns())?;

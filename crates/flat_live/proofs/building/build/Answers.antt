@@ -12,10 +12,10 @@ pub returns : goal.returns
 returns g c = λ opening.
     let s : Side = side_of c.args.plan opening c.args.table.now in
     let head : c.in_ok-header.header ≡ map (head_at c.args.table.now.schema.columns c.args.plan []) c.args.plan.columns
-    = c.in_ok-header.ensures ∙ ap (λ (cs : List Column). map (head_at cs c.args.plan []) c.args.plan.columns) (ap (λ z. z.columns) c.schema.ensures) in
+    = c.in_ok-header.ensures ∙ ap (λ (cs : List Column). map (head_at cs c.args.plan []) c.args.plan.columns) (c.columns.ensures ∙ ap (λ z. z.columns) c.schema.ensures) in
     record {
       plan = refl;
       fits = c.requires;
       header = head ∙ sym (header-unsplit c.args.table.now.schema.columns c.args.plan (kept c.args.plan c.args.table.now.store.pairs) c.requires.whole);
-      rows = placed_kept s c.in_ok-header.header c.in_ok-rows.rows c.requires.flat c.requires.whole head c.len-size.ensures.table.distinct c.len-count.ensures.live c.in_ok-rows.ensures;
+      rows = placed_kept s c.in_ok-header.header c.in_ok-rows.rows c.requires.flat.flat c.requires.whole head c.len-size.ensures.table.distinct c.len-count.ensures.live c.in_ok-rows.ensures;
     }

@@ -1,35 +1,24 @@
-use Rattle.std.proofs.Common.{◌≡◌, Some, None, is_some, length, refl, sym, ap, ◌∙◌}
-use Rattle.std.specs.List.{slice_get}
-use Rattle.std.proofs.lemmas.Option.{slice_get_past, slice_get_read}
-use borrow.Author.Tests.{ltb-false, ltb-true}
+use Rattle.std.proofs.Common.{◌≡◌, get_or, [], ap, ◌∙◌, sym, arith}
 use Rattle.view_spec.specs.Members.{members}
-use Rattle.view_spec.specs.Places.{rows_value}
-use Rattle.group_show.proofs.ShownGroups.{cells_end, cells_more, head_text, no_head, uses_shown}
+use Rattle.view_columns.specs.Headers.{under}
+use Rattle.view_columns.specs.declared.headers.SplitColumns.{SplitColumns}
+use Rattle.group_show.proofs.ShownGroups.{each_length, split_at, split_under, splits_end, splits_more}
 use Rattle.group_show.proofs.groups.group_cells.Goals as goal
-use Rattle.group_show.proofs.groups.group_cells.Goals.{in-Some+in_ok-value+in_ok-put_value, in_default}
 
-pub loop-i-preserved : goal.loop-i-preserved
-loop-i-preserved c columns path rows is head =
+pub loop-one-preserved : goal.loop-one-preserved
+loop-one-preserved c columns path rows paths is each =
     let plan = c.args.plan.now in
-    let header = c.args.header.now in
-    let items = c.as_slice-column-items.result.now in
-    let i = c.loop-i.i in
-    let value_at = rows_value columns plan (members plan rows path) in
-    elim c.match-get.branch [
-      | in-Some+in_ok-value+in_ok-put_value w ↦
-          let found : slice_get header i ≡ Some w.in-Some.head.now =
-          slice_get_read header (length header) i w.in-Some.head.now refl (ltb-true i (length header) (sym w.in-Some.ensures.lookup.0)) w.in-Some.ensures.lookup.1 in
-          cells_more columns plan value_at items i c.loop-i.cells c.match-get.cells w.in-Some.head.now.text w.in_ok-value.value c.loop-i-test.true
-          (head_text columns plan header items i w.in-Some.head.now head c.as_slice-column-items.ensures c.loop-i-test.true found)
-          (w.in_ok-value.ensures columns plan path rows is (uses_shown plan items i c.as_slice-column-items.ensures c.loop-i-test.true))
-          (w.cells-is ∙ w.in_ok-put_value.ensures) ∙ c.loop-i.invariant columns path rows is head
-      | in_default w ↦
-          let past : slice_get header i ≡ None = slice_get_past header i (ltb-false i (length header) (sym c.get.ensures.lookup.0 ∙ ap is_some w.in_default.is)) in
-          absurd (no_head columns plan header items i head c.as_slice-column-items.ensures c.loop-i-test.true past)
-    ]
+    let i = c.loop-one.one-index in
+    let one = c.one-item.result in
+    let long = each_length columns plan paths c.args.split_columns.now each in
+    let found : one ≡ split_under columns plan (get_or paths i []) = split_at columns plan paths c.args.split_columns.now i one each c.loop-one-test.true c.one-item.is in
+    let split : one.split ≡ get_or paths i [] = ap (λ (s : SplitColumns). s.split) found in
+    let heads : one.columns ≡ under columns plan one.split = ap (λ (s : SplitColumns). s.columns) found ∙ ap (under columns plan) (sym split) in
+    splits_more columns plan (members plan rows path) paths i one.split c.loop-one.cells c.put_split.new.cells (omega arith) split (c.in_ok-put_split.ensures columns path rows is heads)
+    ∙ c.loop-one.invariant columns path rows paths is each
 
 pub returns : goal.returns
-returns c columns path rows is head =
+returns c columns path rows paths is each =
     let plan = c.args.plan.now in
-    let items = c.as_slice-column-items.result.now in
-    cells_end columns plan (rows_value columns plan (members plan rows path)) items c.loop-i.i c.loop-i.cells c.as_slice-column-items.ensures c.loop-i-test.false (c.loop-i.invariant columns path rows is head)
+    let long = each_length columns plan paths c.args.split_columns.now each in
+    splits_end columns plan (members plan rows path) paths c.loop-one.one-index c.loop-one.cells (omega arith) (c.loop-one.invariant columns path rows paths is each)

@@ -1,18 +1,18 @@
 use Rattle.std.proofs.Common.{◌≡◌, ◌∙◌, true, false, ◌&&◌, length, ap, sym, arith}
 use Rattle.std.specs.Prelude.{nat_lt}
 use Rattle.std.proofs.lemmas.Bool.{and_left, le-ltb, lt-ltb}
-use Rattle.view_spec.specs.Members.{members}
+use Rattle.view_spec.specs.Members.{splits}
 use Rattle.view_spec.specs.Openings.{is_open, mark_of}
-use Rattle.group_show.proofs.ShownGroups.{cells_whole, same_row}
+use Rattle.group_show.proofs.ShownGroups.{same_row}
 use Rattle.group_show.proofs.groups.group_row.Goals as goal
 use Rattle.group_show.proofs.groups.group_row.Goals.{then-len, else-len}
 
 pub returns : goal.returns
-returns c columns rows is whole head place =
+returns c columns rows is each place =
     let plan = c.args.plan.now in
     let path = c.args.path in
     let opening = c.args.opening.now in
-    let cells = c.in_ok-cells.ensures columns path rows is head ∙ cells_whole columns plan rows (members plan rows path) whole in
+    let cells = c.in_ok-cells.ensures columns path rows (splits plan rows) is each in
     let long = c.len.ensures in
     let wide = c.len-2.ensures in
     let mark : c.if-len.mark ≡ mark_of plan opening path = elim c.if-len.branch [

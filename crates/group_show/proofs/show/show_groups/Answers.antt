@@ -1,46 +1,66 @@
-use Rattle.std.proofs.Common.{◌≡◌, List, [], map, sym, ap, ◌∙◌, subst}
+use Rattle.std.proofs.Common.{◌≡◌, List, map, sym, ap, ◌∙◌, subst}
+use Rattle.cell_core.specs.declared.cell.Cell.{Cell}
 use Rattle.cell_core.specs.declared.schema.Column.{Column}
 use Rattle.row_batch.specs.declared.batch.Pair.{Pair}
-use Rattle.pivot_tree.specs.Trees.{IsTreeOf}
-use Rattle.pivot_tree.specs.declared.tree.PivotTree.{PivotTree}
 use Rattle.plan_types.specs.declared.plan.Plan.{Plan}
 use Rattle.view_types.specs.Rows.{AreShownRows}
-use Rattle.view_types.specs.declared.shown.HeaderColumn.{HeaderColumn}
-use Rattle.view_spec.specs.Cells.{head_at}
 use Rattle.view_spec.specs.Kept.{kept}
+use Rattle.view_spec.specs.Members.{splits}
 use Rattle.view_spec.specs.Views.{placed}
 use Rattle.view_spec.specs.declared.placed.PlacedRow.{PlacedRow}
 use Rattle.view_spec.proofs.LiveLaws.{shown_rows}
+use Rattle.view_columns.specs.Headers.{each_under}
+use Rattle.view_columns.specs.declared.headers.SplitColumns.{SplitColumns}
 use Rattle.view_kept.specs.Steps.{side_of}
 use Rattle.group_show.specs.Levels.{IsShape}
 use Rattle.group_show.proofs.ShownEntries.{entries_placed}
 use Rattle.group_show.proofs.show.show_groups.Goals as goal
 
-shape_of : (columns schema : List Column) (plan : Plan) (header made : List HeaderColumn) (tree : PivotTree) (rows : List Pair) → plan.split_by ≡ [] → schema ≡ columns → header ≡ made
-    → made ≡ map (head_at schema plan []) plan.columns → IsTreeOf columns plan tree rows → IsShape columns plan header tree rows
-shape_of columns schema plan header made tree rows whole same is head stands = record {
-  whole = whole;
-  header_is = is ∙ head ∙ ap (λ cs. map (head_at cs plan []) plan.columns) same;
-  tree_is = stands;
-}
+-- the columns under the split paths of the kept rows
+under_splits : (columns asked : List Column) (plan : Plan) (rows : List Pair) (paths : List (List Cell)) (lent made : List SplitColumns) → asked ≡ columns → paths ≡ splits plan rows → lent ≡ made
+    → made ≡ each_under asked plan paths → lent ≡ each_under columns plan (splits plan rows)
+under_splits columns asked plan rows paths lent made same are is put = is ∙ put ∙ (λ i. each_under (same i) plan (are i))
 
 pub from_listed-requires : goal.from_listed-requires
 from_listed-requires g c =
     let table = c.args.table.now in
     let plan = c.args.plan.now in
     let s = side_of plan c.args.opening.now table in
-    let columns : c.schema.result.now.columns ≡ table.schema.columns = ap (λ t. t.columns) c.schema.ensures in
-    let shape = shape_of table.schema.columns c.schema.result.now.columns plan c.as_slice.result.now c.in_ok-header.header c.in_ok-tree.tree (kept plan table.store.pairs) c.requires.whole columns c.as_slice.ensures c.in_ok-header.ensures c.in_ok-tree.ensures in
+    let columns = table.schema.columns in
+    let kept_rows = kept plan table.store.pairs in
+    let asked : c.columns.result.now ≡ columns = c.columns.ensures ∙ ap (λ t. t.columns) c.schema.ensures in
+    let shape : IsShape columns plan c.deref.result.now c.in_ok-tree.tree kept_rows = record {
+      splits_are = under_splits columns c.columns.result.now plan kept_rows c.in_ok-splits.splits.items c.deref.result.now c.in_ok-columns.columns.items asked
+          (c.in_ok-splits.ensures columns plan kept_rows c.in_ok-tree.ensures) c.deref.ensures.value c.in_ok-columns.ensures;
+      tree_is = c.in_ok-tree.ensures;
+    } in
     let rows : c.from_vec.result ≡ placed s =
-    c.from_vec.ensures ∙ c.in_ok-rows.ensures ∙ entries_placed s c.in_ok-by_place.by_place.entries c.requires.grouped (c.in_ok-by_place.ensures table.schema.columns (kept plan table.store.pairs) shape) in
+    c.from_vec.ensures ∙ c.in_ok-rows.ensures ∙ entries_placed s c.in_ok-by_place.by_place.entries c.requires.grouped (c.in_ok-by_place.ensures columns kept_rows shape) in
     subst (λ (rs : List PlacedRow). AreShownRows (map (λ (p : PlacedRow). p.row) rs)) (sym rows) (shown_rows s c.len-count.ensures.table.distinct)
+
+pub returns-clause-header : goal.returns-clause-header
+returns-clause-header g c =
+    let table = c.args.table.now in
+    let plan = c.args.plan.now in
+    let columns = table.schema.columns in
+    let kept_rows = kept plan table.store.pairs in
+    let asked : c.columns.result.now ≡ columns = c.columns.ensures ∙ ap (λ t. t.columns) c.schema.ensures in
+    c.in_ok-header_of.ensures columns plan (splits plan kept_rows)
+    (under_splits columns c.columns.result.now plan kept_rows c.in_ok-splits.splits.items c.deref-2.result.now c.in_ok-columns.columns.items asked
+    (c.in_ok-splits.ensures columns plan kept_rows c.in_ok-tree.ensures) c.deref-2.ensures.value c.in_ok-columns.ensures)
 
 pub returns-clause-rows : goal.returns-clause-rows
 returns-clause-rows g c =
     let table = c.args.table.now in
     let plan = c.args.plan.now in
     let s = side_of plan c.args.opening.now table in
-    let columns : c.schema.result.now.columns ≡ table.schema.columns = ap (λ t. t.columns) c.schema.ensures in
-    let shape = shape_of table.schema.columns c.schema.result.now.columns plan c.as_slice.result.now c.in_ok-header.header c.in_ok-tree.tree (kept plan table.store.pairs) c.requires.whole columns c.as_slice.ensures c.in_ok-header.ensures c.in_ok-tree.ensures in
+    let columns = table.schema.columns in
+    let kept_rows = kept plan table.store.pairs in
+    let asked : c.columns.result.now ≡ columns = c.columns.ensures ∙ ap (λ t. t.columns) c.schema.ensures in
+    let shape : IsShape columns plan c.deref.result.now c.in_ok-tree.tree kept_rows = record {
+      splits_are = under_splits columns c.columns.result.now plan kept_rows c.in_ok-splits.splits.items c.deref.result.now c.in_ok-columns.columns.items asked
+          (c.in_ok-splits.ensures columns plan kept_rows c.in_ok-tree.ensures) c.deref.ensures.value c.in_ok-columns.ensures;
+      tree_is = c.in_ok-tree.ensures;
+    } in
     c.from_listed.ensures ∙ c.from_vec.ensures ∙ c.in_ok-rows.ensures
-    ∙ entries_placed s c.in_ok-by_place.by_place.entries c.requires.grouped (c.in_ok-by_place.ensures table.schema.columns (kept plan table.store.pairs) shape)
+    ∙ entries_placed s c.in_ok-by_place.by_place.entries c.requires.grouped (c.in_ok-by_place.ensures columns kept_rows shape)

@@ -17,7 +17,7 @@ returns-in_ok-push-2 g c columns rows shape place there =
     let next : c.push.new.self ≡ path ++ value ∷ [] = c.in_ok-push.ensures.ok ∙ (λ k. c.in_ok-path.ensures k ++ c.in_ok-copy.ensures k ∷ []) in
     let found = (c.in-Some.ensures.found columns plan rows shape.tree_is).1 in
     let at = place_next columns plan rows path value c.args.place.now c.in_ok-place.place place (c.in_ok-place.ensures columns (path ++ value ∷ []) rows (subst (λ q. IsNode columns plan q node rows) next found)) in
-    let shown = c.in_ok-group_row.ensures columns rows found shape.whole shape.header_is (at ∙ ap (place_of_group columns plan rows) (sym next)) in
+    let shown = c.in_ok-group_row.ensures columns rows found shape.splits_are (at ∙ ap (place_of_group columns plan rows) (sym next)) in
     c.in_ok-push-2.ensures.items ∙ ap (λ x. c.args.below.now.items ++ x ∷ []) (shown ∙ ap (placed_group columns plan opening rows) next)
 
 pub returns-in_default : goal.returns-in_default

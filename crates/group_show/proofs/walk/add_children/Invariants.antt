@@ -8,5 +8,5 @@ use Rattle.group_show.proofs.walk.add_children.Given as goal
 
 abbrev pub invariant-loop-value : goal.invariant-loop-value
 invariant-loop-value g l =
-    (columns : List Column) (rows : List Pair) → IsShape columns l.plan l.header l.tree rows → l.place ≡ place_of_group columns l.plan rows l.path
+    (columns : List Column) (rows : List Pair) → IsShape columns l.plan l.split_columns l.tree rows → l.place ≡ place_of_group columns l.plan rows l.path
     → l.below.items ≡ l.initial.below.items ++ map (λ c. placed_group columns l.plan l.opening rows (l.path ++ c ∷ [])) (take l.value-index l.value-items)

@@ -10,6 +10,6 @@ use Rattle.group_show.proofs.walk.level_below.Given as goal
 
 abbrev pub invariant-loop-above : goal.invariant-loop-above
 invariant-loop-above g l =
-    (columns : List Column) (rows : List Pair) (paths : List (List Cell)) → IsShape columns l.plan l.header l.tree rows
+    (columns : List Column) (rows : List Pair) (paths : List (List Cell)) → IsShape columns l.plan l.split_columns l.tree rows
     → l.level ≡ map (placed_group columns l.plan l.opening rows) paths → IsDistinct same_path paths
     → AreRowsBelow columns l.plan l.opening rows (take l.above-index paths) l.below.items

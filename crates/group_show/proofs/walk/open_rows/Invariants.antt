@@ -7,4 +7,4 @@ use Rattle.group_show.proofs.walk.open_rows.Given as goal
 
 abbrev pub invariant-loop-depth : goal.invariant-loop-depth
 invariant-loop-depth g l =
-    (columns : List Column) (rows : List Pair) → IsShape columns l.plan l.header l.tree rows → AreOpened columns l.plan l.opening rows l._depth l.by_place.entries l.level.items
+    (columns : List Column) (rows : List Pair) → IsShape columns l.plan l.split_columns l.tree rows → AreOpened columns l.plan l.opening rows l._depth l.by_place.entries l.level.items

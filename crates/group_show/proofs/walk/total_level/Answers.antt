@@ -14,7 +14,7 @@ returns g c columns rows shape =
     elim c.match-node.branch [
       | in-Some+in_ok-group_row+in_ok-push w ↦
           let found = (w.in-Some.ensures.found columns plan rows shape.tree_is).1 in
-          let shown = w.in_ok-group_row.ensures columns rows found shape.whole shape.header_is (w.new-place.ensures ∙ ap (place_of_group columns plan rows) (sym empty)) in
+          let shown = w.in_ok-group_row.ensures columns rows found shape.splits_are (w.new-place.ensures ∙ ap (place_of_group columns plan rows) (sym empty)) in
           rw w.level-is (first_level columns plan opening rows c.new-path.result w.in_ok-group_row.field-0 c.new-level.result.items w.push.new.self.items empty c.new-level.ensures.items shown w.in_ok-push.ensures.items)
       | in_default w ↦
           let none : is_there plan rows c.new-path.result ≡ false = w.in_default.ensures.found columns plan rows shape.tree_is in

@@ -1,4 +1,3 @@
-use Rattle.std.proofs.Common.{◌≡◌, ◌∙◌}
 use Rattle.hub_views.proofs.GroupNames.{no_name}
 use Rattle.hub_views.proofs.groups.column_name.Goals as goal
 

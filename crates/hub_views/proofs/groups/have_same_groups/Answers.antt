@@ -1,4 +1,4 @@
-use Rattle.std.proofs.Common.{◌≡◌, refl, sym, ◌∙◌}
+use Rattle.std.proofs.Common.{refl, sym, ◌∙◌}
 use Rattle.hub_views.proofs.GroupNames.{all_same, name_differs, one_more_name, other_count}
 use Rattle.hub_views.proofs.groups.have_same_groups.Goals as goal
 

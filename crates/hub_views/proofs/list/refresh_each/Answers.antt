@@ -1,4 +1,4 @@
-use Rattle.std.proofs.Common.{◌≡◌, ◌++◌, get_or, sym, ◌∙◌, arith}
+use Rattle.std.proofs.Common.{get_or, sym, ◌∙◌, arith}
 use Rattle.hub_views.proofs.Refreshes.{one_more, noted_loss, no_loss}
 use Rattle.hub_views.proofs.list.refresh_each.Goals as goal
 use Rattle.hub_views.proofs.list.refresh_each.Goals.{then-refresh, else-refresh}

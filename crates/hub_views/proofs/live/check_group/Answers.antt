@@ -1,4 +1,4 @@
-use Rattle.std.proofs.Common.{◌≡◌, length, inl, inr, sym, ap, ◌∙◌}
+use Rattle.std.proofs.Common.{length, inl, inr, sym, ap, ◌∙◌}
 use Rattle.std.specs.Prelude.{is_some, not}
 use Rattle.std.proofs.lemmas.Bool.{eq-eqb, ne_eqb}
 use Rattle.delta_core.specs.Rows.{position_of}

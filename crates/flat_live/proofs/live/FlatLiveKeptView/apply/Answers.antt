@@ -1,11 +1,11 @@
 use Rattle.std.proofs.Common.{ap, sym, subst, ◌∙◌}
 use Rattle.delta_core.specs.Deltas.{marked}
 use Rattle.delta_core.specs.Rows.{at_key}
-use Rattle.flat_show.specs.Plans.{IsFlatPlan}
 use Rattle.view_kept.specs.Steps.{side_at}
 use Rattle.view_spec.specs.Touching.{touched_keys}
 use Rattle.view_spec.specs.Views.{placed, view}
 use Rattle.live_list.specs.Live.{live_key}
+use Rattle.flat_live.specs.Plans.{IsLivePlan}
 use Rattle.flat_live.specs.Rows.{settled, told}
 use Rattle.flat_live.proofs.Steps.{head_untouched, header_at, keys_touched, placed_at, placed_settled, steps_of}
 use Rattle.flat_live.proofs.live.FlatLiveKeptView.apply.Goals as goal
@@ -13,7 +13,7 @@ use Rattle.flat_live.proofs.live.FlatLiveKeptView.apply.Goals as goal
 pub returns-clause-stands : goal.returns-clause-stands
 returns-clause-stands g c = λ s st step. record {
   plan = st.plan;
-  fits = subst (λ cs. IsFlatPlan cs s.plan) (sym step.columns) st.fits;
+  fits = subst (λ cs. IsLivePlan cs s.plan) (sym step.columns) st.fits;
   header = st.header ∙ header_at s c.args._table.now st.fits.whole step.columns;
   rows = placed_settled s c.args.self.now.header c.args.self.now.rows c.settle_all.new.rows c.args.changes.now (steps_of s c.args.self.now.plan c.args.self.now.header c.args.self.now.rows c.settle_all.new.rows c.args.changes.now c.args._table.now st.plan st.header st.fits st.rows step c.len-count.ensures.live c.in_ok-settle_all.ensures.rows) ∙ placed_at s c.args.changes.now c.args._table.now step;
 }

@@ -1,8 +1,8 @@
-use Rattle.std.proofs.Common.{◌≡◌, sym, ap, ◌∙◌}
+use Rattle.std.proofs.Common.{sym, ap, ◌∙◌}
 use Rattle.cell_core.specs.RawViews.{raw_view}
 use Rattle.cell_core.specs.Schemas.{SchemaData}
 use Rattle.hub_spec.specs.Plans.{plan_asked}
-use Rattle.hub_views.proofs.AskedPlans.{unsplit_asked}
+use Rattle.hub_views.proofs.AskedPlans.{asked_fits}
 use Rattle.hub_views.proofs.GroupTests.{no_plan}
 use Rattle.hub_views.proofs.live.LiveView.edit.Goals as goal
 
@@ -15,5 +15,5 @@ returns-in_err-plan g c =
 pub replan-requires : goal.replan-requires
 replan-requires g c =
     let a = c.args in
-    unsplit_asked a.table.now.schema (raw_view a.plan.now) c.in_ok-plan.plan
+    asked_fits a.table.now.schema (raw_view a.plan.now) c.in_ok-plan.plan
     (sym c.in_ok-plan.was ∙ c.in_ok-plan_asked.ensures ∙ ap (λ (s : SchemaData). plan_asked s (raw_view a.plan.now)) c.schema.ensures)

@@ -1,4 +1,4 @@
-use Rattle.std.proofs.Common.{◌≡◌, Ok, Err, Result, refl, ◌∙◌, arith}
+use Rattle.std.proofs.Common.{Ok, Err, Result, refl, arith}
 use Rattle.std.specs.Prelude.{OnErr}
 use Rattle.hub_views.specs.Keeping.{HoldsViews}
 use Rattle.hub_views.proofs.Opening.{opened_is}

@@ -1,6 +1,5 @@
-use Rattle.std.proofs.Common.{◌≡◌, refl, sym, ap, ◌∙◌, find}
+use Rattle.std.proofs.Common.{refl, sym, ap, ◌∙◌, find}
 use Rattle.std.specs.Option.{option_copied}
-use Rattle.frame_types.specs.Refusals.{no_view}
 use Rattle.hub_views.specs.Keeping.{is_kept}
 use Rattle.hub_views.proofs.Told.{closed_gives, view_is_missing}
 use Rattle.hub_views.proofs.views.Views.close.Goals as goal

@@ -1,4 +1,4 @@
-use Rattle.std.proofs.Common.{◌≡◌, refl, ap, ◌∙◌, eqb, filter, length}
+use Rattle.std.proofs.Common.{refl, ap, ◌∙◌, eqb, filter, length}
 use Rattle.hub_views.specs.declared.view.View.{View}
 use Rattle.hub_views.proofs.Told.{left_gives}
 use Rattle.hub_views.proofs.views.Views.leave.Goals as goal

@@ -1,4 +1,4 @@
-use Rattle.std.proofs.Common.{[], map, refl, sym, ap, ◌∙◌, subst}
+use Rattle.std.proofs.Common.{map, refl, sym, ap, ◌∙◌, subst}
 use Rattle.std.proofs.lemmas.List.{get_or-replicate}
 use Rattle.frame_types.specs.Limits.{sessions}
 use Rattle.hub_spec.specs.HeldViews.{opened_count}

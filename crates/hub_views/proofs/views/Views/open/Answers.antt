@@ -1,10 +1,10 @@
-use Rattle.std.proofs.Common.{◌≡◌, refl, sym, ap, ◌∙◌, arith}
+use Rattle.std.proofs.Common.{refl, sym, ap, ◌∙◌, arith}
 use Rattle.std.proofs.lemmas.Bool.{le-leb, lt-leb}
 use Rattle.cell_core.specs.RawViews.{raw_view}
 use Rattle.cell_core.specs.Schemas.{SchemaData}
 use Rattle.frame_types.specs.Asks as ask
 use Rattle.hub_spec.specs.Plans.{plan_asked}
-use Rattle.hub_views.proofs.AskedPlans.{unsplit_asked}
+use Rattle.hub_views.proofs.AskedPlans.{asked_fits}
 use Rattle.hub_views.proofs.Told.{open_is_full, opened_gives, plan_is_refused, views_are_wanted}
 use Rattle.hub_views.proofs.views.Views.open.Goals as goal
 
@@ -29,7 +29,7 @@ returns-then-len-ge-MAX_VIEWS-clause-gives g c = λ past h few.
 pub add-requires-clause-fits : goal.add-requires-clause-fits
 add-requires-clause-fits g c =
     let a = c.args in
-    unsplit_asked a.table.now.schema (raw_view a.plan.now) c.in-Ok-Ok.plan (sym c.in-Ok-Ok.field-0-is ∙ c.in-Ok-Ok.ensures ∙ ap (λ (s : SchemaData). plan_asked s (raw_view a.plan.now)) c.schema.ensures)
+    asked_fits a.table.now.schema (raw_view a.plan.now) c.in-Ok-Ok.plan (sym c.in-Ok-Ok.field-0-is ∙ c.in-Ok-Ok.ensures ∙ ap (λ (s : SchemaData). plan_asked s (raw_view a.plan.now)) c.schema.ensures)
 
 pub returns-in-Ok-clause-gives : goal.returns-in-Ok-clause-gives
 returns-in-Ok-clause-gives g c = λ past h few.

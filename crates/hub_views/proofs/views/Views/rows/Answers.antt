@@ -1,7 +1,6 @@
-use Rattle.std.proofs.Common.{refl, ◌∙◌, arith}
+use Rattle.std.proofs.Common.{refl, arith}
 use Rattle.std.proofs.lemmas.Bool.{lt-ltb, le-ltb}
 use Rattle.frame_types.specs.Asks as ask
-use Rattle.frame_types.specs.Refusals.{bad_window}
 use Rattle.hub_spec.proofs.Giving.{err_body}
 use Rattle.hub_views.proofs.Told.{asked_is_refused, shown_gives, views_are_wanted, window_is_refused}
 use Rattle.hub_views.proofs.views.Views.rows.Goals as goal

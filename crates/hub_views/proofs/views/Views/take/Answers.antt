@@ -1,4 +1,4 @@
-use Rattle.std.proofs.Common.{◌≡◌, refl, ◌∙◌}
+use Rattle.std.proofs.Common.{refl}
 use Rattle.frame_types.specs.Asks as ask
 use Rattle.hub_spec.proofs.Giving.{err_body}
 use Rattle.hub_views.proofs.Told.{asked_is_refused, taken_gives, views_are_wanted}

@@ -1,5 +1,4 @@
-use Rattle.std.proofs.Common.{◌≡◌, sym, ◌∙◌, subst}
-use Rattle.view_spec.specs.Views.{Side}
+use Rattle.std.proofs.Common.{sym, ◌∙◌, subst}
 use Rattle.view_kept.specs.Steps.{side_of}
 use Rattle.flat_live.specs.Flat.{StandsFlat}
 use Rattle.live_rows.specs.Live.{StandsLive}

@@ -1,0 +1,4 @@
+pub mod AbsentColumns
+pub mod Dates
+pub mod Escapes
+pub mod WholeHeaders
