@@ -1,38 +1,36 @@
--- A live flat view of all rows of a table.
-use Rattle.std.proofs.Common.{◌≡◌, ℕ, zero, suc, Bool, true, false, cond, List, [], ◌∷◌, map, Some, None, refl, sym, ◌∙◌, ap}
+-- The rows of a table that a plan keeps.
+use Rattle.std.proofs.Common.{◌≡◌, ℕ, zero, suc, Bool, true, false, cond, List, [], ◌∷◌, map, drop, Some, None, refl, sym, ◌∙◌, ap}
+use Rattle.std.specs.Prelude.{OnOk, Result, Ok, Err}
+use Rattle.std.specs.List.{IsDistinct}
+use Rattle.std.specs.List.Sorted.{IsPermutation}
 use Rattle.std.specs.Option.{option_map}
+use Rattle.std.specs.Ordering.{eq_by_cmp}
 use Rattle.plain_data.specs.Distinct.{AreDistinct}
-use Rattle.cell_core.specs.Cells.{same_cell}
+use Rattle.cell_core.specs.Cells.{cell_order, same_cell}
+use Rattle.cell_core.proofs.CellOrder.{exact}
 use Rattle.row_batch.specs.Batches.{pair_of}
 use Rattle.row_batch.specs.Changes.{row_at}
 use Rattle.row_batch.specs.Tables.{keys_of_rows}
 use Rattle.row_batch.specs.declared.batch.Pair.{Pair}
+use Rattle.row_batch.proofs.Lookups.{absent_at}
+use Rattle.place_order.specs.PlaceLaws.{is_equal}
 use Rattle.plan_types.specs.declared.plan.Plan.{Plan}
 use Rattle.view_types.proofs.KeyOrder.{same_key-symm}
 use Rattle.view_types.specs.Keys.{same_key}
 use Rattle.view_types.specs.declared.key.ViewKey.{ViewKey}
 use Rattle.view_types.specs.declared.key.ViewKey.TheVariants.{Row, Group}
-use Rattle.view_types.specs.declared.shown.HeaderColumn.{HeaderColumn}
 use Rattle.delta_core.specs.Rows.{at_key}
-use Rattle.view_spec.specs.Cells.{head_at}
-use Rattle.view_spec.specs.Columns.{is_flat}
-use Rattle.view_spec.specs.Entries.{entry, row_entry}
-use Rattle.view_spec.specs.Laws.{HasKeys}
-use Rattle.view_spec.specs.Views.{Side, placed}
-use Rattle.view_spec.proofs.LiveLaws.{placed-unique}
-use Rattle.live_list.specs.Live.{IsLive, live_key}
-use Rattle.flat_live.specs.Rows.{FlatRow, as_placed, live_at}
-use Rattle.view_spec.specs.Entries.{group_entry}
-use Rattle.view_spec.specs.Kept.{kept}
-use Rattle.std.specs.Prelude.{OnOk, Result, Ok, Err}
-use Rattle.std.proofs.Common.{drop}
-use Rattle.cell_core.specs.Cells.{cell_order}
-use Rattle.cell_core.proofs.CellOrder.{exact}
-use Rattle.place_order.specs.PlaceLaws.{is_equal}
-use Rattle.row_batch.proofs.Lookups.{absent_at}
-use Rattle.flat_live.specs.Rows.{IsKeptOf, live_under}
-use Rattle.flat_live.proofs.Stands.{placed_live_at}
-use Rattle.flat_live.proofs.Steps.{at_key-map, placed_ascend, placed_differ}
+use Rattle.view_spec.specs.Entries.{where_it}
+use Rattle.view_spec.specs.Kept.{by_key, full_pair, is_kept}
+use Rattle.view_spec.proofs.FlatLaws.{kept_in_order, kept_in_order-distinct}
+use Rattle.view_spec.proofs.KeptLaws.{keys_differ}
+use Rattle.view_spec.proofs.ViewLaws.{IsDistinct-map}
+use Rattle.key_map.specs.Keyed.{same_by}
+use Rattle.live_list.specs.Live.{live_key}
+use Rattle.flat_live.specs.FlatRows.{FlatRow}
+use Rattle.flat_live.specs.Rows.{IsKeptOf, live_at, live_row, live_under}
+use Rattle.flat_live.proofs.ByKey.{permuted}
+use Rattle.flat_live.proofs.Options.{none_there}
 
 kept_none : (plan : Plan) → IsKeptOf plan [] []
 kept_none plan = record { rows = none }
@@ -75,13 +73,30 @@ pub kept_more_ok : {A E : Type 0} (r : Result A E) (plan : Plan) (p : Pair) (ps 
 kept_more_ok (Ok x) plan p ps rows now h each = kept_more plan p ps rows now h each
 kept_more_ok (Err e) plan p ps rows now h each = tt
 
--- all rows kept: the view's list
-pub placed_kept : (s : Side) (header : List HeaderColumn) (rows : List FlatRow) → is_flat s.plan ≡ true → s.plan.split_by ≡ [] → header ≡ map (head_at s.columns s.plan []) s.plan.columns → HasKeys s
-    → IsLive rows → IsKeptOf s.plan s.pairs rows → map (as_placed header) rows ≡ placed s
-placed_kept s header rows flat none head keys live kept =
-    placed-unique s (map (as_placed header) rows) keys (placed_ascend header rows live.ascend) (placed_differ header rows live.differ)
-    (λ k. at_key-map header k rows ∙ ap (option_map (as_placed header)) (kept.rows k) ∙ by k)
+-- ---- the kept rows as a list
+
+abbrev pub live_rows : Plan → List Pair → List FlatRow
+live_rows plan pairs = map (live_row plan) (kept_in_order plan pairs)
+
+at_key-live_rows : (plan : Plan) (pairs : List Pair) → AreDistinct (keys_of_rows pairs) → (k : ViewKey) → at_key live_key k (live_rows plan pairs) ≡ live_under plan pairs k
+at_key-live_rows plan [] distinct (Row key) = refl
+at_key-live_rows plan [] distinct (Group path) = refl
+at_key-live_rows plan (p ∷ ps) distinct k = by (is_kept plan (full_pair plan p)) refl (at_key-live_rows plan ps distinct.1 k) ∙ more plan p ps k
   where
-    by : (k : ViewKey) → option_map (as_placed header) (live_under s.plan s.pairs k) ≡ entry s k
-    by (Row key) = placed_live_at s.columns s.plan header (option_map (pair_of key) (row_at s.pairs key)) none head ∙ ap (λ b. cond b (row_entry s key) None) (sym flat)
-    by (Group path) = ap (λ b. cond b None (group_entry s path)) (sym flat)
+    by : (b : Bool) → is_kept plan (full_pair plan p) ≡ b → at_key live_key k (live_rows plan ps) ≡ live_under plan ps k
+        → at_key live_key k (map (live_row plan) (cond b (full_pair plan p ∷ kept_in_order plan ps) (kept_in_order plan ps))) ≡ cond (same_key (Row p.key) k) (live_at plan (Some p)) (live_under plan ps k)
+    by true is later =
+        ap (cond (same_key (Row p.key) k) (Some (live_row plan (full_pair plan p)))) later
+        ∙ ap (λ b. cond (same_key (Row p.key) k) (option_map (live_row plan) (where_it b (full_pair plan p))) (live_under plan ps k)) (sym is)
+    by false is later =
+        later ∙ none_there (live_under plan ps) (Row p.key) k (absent_later plan p ps distinct)
+        ∙ ap (λ b. cond (same_key (Row p.key) k) (option_map (live_row plan) (where_it b (full_pair plan p))) (live_under plan ps k)) (sym is)
+
+live_rows-differ : (plan : Plan) (pairs : List Pair) → AreDistinct (keys_of_rows pairs) → IsDistinct (same_by live_key) (live_rows plan pairs)
+live_rows-differ plan pairs distinct =
+    IsDistinct-map (eq_by_cmp by_key) (same_by live_key) (live_row plan) (λ x y apart. apart) (kept_in_order plan pairs)
+    (keys_differ (kept_in_order plan pairs) (kept_in_order-distinct plan pairs distinct))
+
+pub kept_permuted : (plan : Plan) (pairs : List Pair) (rows : List FlatRow) → AreDistinct (keys_of_rows pairs) → IsDistinct (same_by live_key) rows → IsKeptOf plan pairs rows → IsPermutation rows (live_rows plan pairs)
+kept_permuted plan pairs rows distinct differ kept =
+    permuted live_key rows (live_rows plan pairs) differ (live_rows-differ plan pairs distinct) (λ k. kept.rows k ∙ sym (at_key-live_rows plan pairs distinct k))

@@ -1,11 +1,15 @@
 pub mod Acts
+pub mod Applies
 pub mod Builds
+pub mod ByKey
 pub mod Compares
 pub mod Drops
 pub mod Keeps
 pub mod Options
+pub mod RowCounts
 pub mod Settles
 pub mod Shows
+pub mod Splits
 pub mod Stands
 pub mod Steps
 pub mod Touches

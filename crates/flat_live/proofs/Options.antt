@@ -14,9 +14,13 @@ pub ok_map : {A E : Type 0} {P Q : Type 0} (r : Result A E) → (P → Q) → On
 ok_map (Ok x) f p = f p
 ok_map (Err e) f p = tt
 
-pub ok_all : {A E K : Type 0} (P : K → Type 0) (Q : Type 0) (r : Result A E) → (((k : K) → P k) → Q) → ((k : K) → OnOk r (P k)) → OnOk r Q
-ok_all P Q (Ok x) f p = f p
-ok_all P Q (Err e) f p = tt
+pub ok_plain : {A E : Type 0} {P : Type 0} (r : Result A E) → P → OnOk r P
+ok_plain (Ok x) p = p
+ok_plain (Err e) p = tt
+
+pub ok_both : {A E : Type 0} {P Q R : Type 0} (r : Result A E) → (P → Q → R) → OnOk r P → OnOk r Q → OnOk r R
+ok_both (Ok x) f p q = f p q
+ok_both (Err e) f p q = tt
 
 pub copied_some : {X : Type 0} (o : Option (Bor X)) → is_some (option_copied o) ≡ is_some o
 copied_some None = refl

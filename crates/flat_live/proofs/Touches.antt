@@ -6,7 +6,6 @@ use Rattle.std.specs.Map.{keys_of, lookup}
 use Rattle.std.specs.Option.{option_map}
 use Rattle.view_types.specs.Keys.{key_order, same_key}
 use Rattle.view_types.specs.declared.key.ViewKey.{ViewKey}
-use Rattle.view_types.specs.declared.shown.HeaderColumn.{HeaderColumn}
 use Rattle.view_types.proofs.KeyOrder as keys
 use Rattle.delta_core.specs.Deltas.{marked}
 use Rattle.delta_core.specs.KeySets.{is_among, with_keys}
@@ -22,7 +21,8 @@ use Rattle.view_spec.proofs.LocalLaws.{touched-by_entry}
 use Rattle.view_spec.proofs.StepLaws.{among_touched_keys}
 use Rattle.view_spec.proofs.ViewLaws.{found}
 use Rattle.key_map.proofs.Keyed.{row_at-shown}
-use Rattle.flat_live.specs.Rows.{FlatRow, as_placed, told}
+use Rattle.flat_live.specs.FlatRows.{FlatRow}
+use Rattle.flat_live.specs.Rows.{Heads, as_placed, told}
 use Rattle.std.proofs.lemmas.List.Kept.{IsStrictlySortedBy-filter}
 use Rattle.key_map.proofs.LookUps.{by_lookups}
 
@@ -47,7 +47,7 @@ shown_before : (s : Side) (q : ViewKey) → HasKeys s → is_some (entry s q) �
 shown_before s q keys =
     ap is_some (sym (found s q keys)) ∙ sym (some_mapped (λ (x : PlacedRow). x.row) (at_key key_of q (placed s))) ∙ ap is_some (row_at-shown (λ (x : PlacedRow). x.row) q (placed s))
 
-told_entries : (a b : Side) (ha hb : List HeaderColumn) (was now : Option FlatRow) (q : ViewKey) → HasKeys a → HasKeys b
+told_entries : (a b : Side) (ha hb : Heads) (was now : Option FlatRow) (q : ViewKey) → HasKeys a → HasKeys b
     → option_map (as_placed ha) was ≡ entry a q → option_map (as_placed hb) now ≡ entry b q → told ha hb was now ≡ lookup (same_key q) (marked (view a).rows (touched a b))
 told_entries a b ha hb was now q ka kb before after =
     ap (λ e. cond (same_found e (option_map (as_placed hb) now)) None (Some (record { was_shown = is_some was }))) before
@@ -58,7 +58,7 @@ told_entries a b ha hb was now q ka kb before after =
     ∙ sym (lookup-beside (λ k. has_row k (view a).rows) (touched a b) q)
 
 -- the keys that were noted with what is told of each are those that the step touches
-pub keys_told : (a b : Side) (ha hb : List HeaderColumn) (was now : ViewKey → Option FlatRow) (noted : List (ViewKey × Touch)) → HasKeys a → HasKeys b
+pub keys_told : (a b : Side) (ha hb : Heads) (was now : ViewKey → Option FlatRow) (noted : List (ViewKey × Touch)) → HasKeys a → HasKeys b
     → ((q : ViewKey) → option_map (as_placed ha) (was q) ≡ entry a q) → ((q : ViewKey) → option_map (as_placed hb) (now q) ≡ entry b q)
     → IsStrictlySortedBy key_order (keys_of noted) → ((q : ViewKey) → lookup (same_key q) noted ≡ told ha hb (was q) (now q))
     → noted ≡ marked (view a).rows (touched a b)

@@ -1,21 +1,22 @@
-ghost use Rattle.std.specs.Prelude.{◌≡◌, ◌+◌, ◌<◌, IfOk, OnOk, drop, length};
+ghost use Rattle.std.specs.Prelude.{◌+◌, ◌<◌, IfOk, OnOk, drop, length};
 ghost use Rattle.view_spec.specs.Openings.{Opening};
 ghost use Rattle.view_kept.specs.Steps.{side_of};
+ghost use Rattle.flat_show.specs.Plans.{IsFlatPlan};
 ghost use Rattle.flat_live.specs.Flat.{StandsFlat};
-ghost use Rattle.flat_live.specs.Plans.{IsLivePlan};
 ghost use Rattle.flat_live.specs.Rows.{IsKeptOf};
 
+use crate::header::header_over;
 use crate::keep::keep;
 use crate::live::FlatLive;
-use cell_core::{Memory, Row, Steps};
-use live_list::LiveList;
+use crate::rows::FlatRows;
+use cell_core::{Listed, Memory, Steps};
 use plan_types::Plan;
 use std::alloc::Global;
 use std::sync::ledger::Ledger;
 use table_core::Table;
-use view_columns::columns_under;
+use view_columns::columns_copied;
 
-/// The view of the table's rows by a flat plan without splits. `steps` counts the visits of rows.
+/// The view of the table's rows by a flat plan. `steps` counts the visits of rows.
 ///
 /// Want of memory is the only refusal.
 pub fn build<L: Ledger>(
@@ -24,14 +25,20 @@ pub fn build<L: Ledger>(
     table: &Table,
     steps: &mut Steps<L>,
 ) -> Result<FlatLive, Memory>
-    requires { IsLivePlan table.now.schema.columns plan }
+    requires { IsFlatPlan table.now.schema.columns plan }
     ensures { (opening : Opening) → IfOk result (λ view. StandsFlat view (side_of plan opening table.now)) }
 {
     let _size = table.len();
-    let header = columns_under(alloc, table.schema().columns(), &plan, &[])?;
+    let columns = columns_copied(alloc, table.schema().columns())?;
     let rows = all_rows(alloc, &plan, table, steps)?;
+    let header = header_over(alloc, &columns, &plan, &rows)?;
     let _count = rows.len();
-    Ok(FlatLive { plan, header, rows })
+    Ok(FlatLive {
+        columns: Listed::from_vec(columns),
+        plan,
+        header,
+        rows,
+    })
 }
 
 /// The rows of the table that the plan keeps.
@@ -40,10 +47,10 @@ fn all_rows<L: Ledger>(
     plan: &Plan,
     table: &Table,
     steps: &mut Steps<L>,
-) -> Result<LiveList<Row>, Memory>
+) -> Result<FlatRows, Memory>
     ensures { IfOk result (λ rows. IsKeptOf plan.now table.now.store.pairs rows) }
 {
-    let mut rows = LiveList::new(alloc);
+    let mut rows = FlatRows::new(alloc);
     let count = table.len();
     for i in 0..count {
         keep_at(alloc, plan, table, count - 1 - i, &mut rows, steps)?;
@@ -57,7 +64,7 @@ fn keep_at<L: Ledger>(
     plan: &Plan,
     table: &Table,
     at: usize,
-    rows: &mut LiveList<Row>,
+    rows: &mut FlatRows,
     steps: &mut Steps<L>,
 ) -> Result<(), Memory>
     requires within { at < length table.now.store.pairs }
@@ -65,8 +72,9 @@ fn keep_at<L: Ledger>(
     ensures { OnOk result (IsKeptOf plan.now (drop at table.now.store.pairs) rows.new) }
 {
     let _size = table.len();
+    let mut splits_moved = false;
     match table.at(at, steps) {
-        Some((key, row)) => keep(alloc, plan, key, row, rows),
+        Some((key, row)) => keep(alloc, plan, key, row, rows, &mut splits_moved),
         None => Ok(()),
     }
 }

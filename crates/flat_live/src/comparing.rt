@@ -1,99 +1,100 @@
 ghost use Rattle.std.specs.Prelude.{◌≡◌, ◌+◌, ◌<◌, OnOk, [], drop, length};
 ghost use Rattle.std.specs.List.Sorted.{IsStrictlySortedBy};
 ghost use Rattle.std.specs.Map.{keys_of};
+ghost use Rattle.view_columns.specs.Headers.{under};
 ghost use Rattle.view_types.specs.Keys.{key_order};
 ghost use Rattle.flat_live.specs.Rows.{TellsNew, TellsOld};
 
+use crate::live::FlatLive;
 use crate::showing::stays;
-use cell_core::{Copies, Memory, Row};
+use cell_core::{Copies, Memory};
 use delta_core::{Touch, TouchedKeys};
-use live_list::LiveList;
 use std::alloc::Global;
-use view_types::HeaderColumn;
 
-/// Notes each key of the old rows under which something else is shown now.
+/// Notes each key of the old view under which something else is shown now.
 pub(crate) fn compare_old(
     alloc: Global,
-    first: &[HeaderColumn],
-    last: &[HeaderColumn],
-    was: &LiveList<Row>,
-    now: &LiveList<Row>,
+    was: &FlatLive,
+    now: &FlatLive,
     touched: &mut TouchedKeys,
 ) -> Result<(), Memory>
     requires { touched.old ≡ [] }
-    ensures { OnOk result (TellsOld first.now last.now was.now now.now was.now touched.new) }
+    ensures { OnOk result (TellsOld (under was.now.columns was.now.plan) (under now.now.columns now.now.plan) was.now.rows now.now.rows was.now.rows touched.new) }
 {
-    let count = was.len();
+    let count = was.rows.len();
     for i in 0..count {
-        note_old(alloc, first, last, was, now, count - 1 - i, touched)?;
+        note_old(alloc, was, now, count - 1 - i, touched)?;
     }
     Ok(())
 }
 
-/// Notes each key that only the new rows have.
+/// Notes each key that only the new view has.
 pub(crate) fn compare_new(
     alloc: Global,
-    first: &[HeaderColumn],
-    last: &[HeaderColumn],
-    was: &LiveList<Row>,
-    now: &LiveList<Row>,
+    was: &FlatLive,
+    now: &FlatLive,
     touched: &mut TouchedKeys,
 ) -> Result<(), Memory>
-    requires { TellsOld first.now last.now was.now now.now was.now touched.old }
-    ensures tells { OnOk result (TellsNew first.now last.now was.now now.now now.now touched.new) }
+    requires { TellsOld (under was.now.columns was.now.plan) (under now.now.columns now.now.plan) was.now.rows now.now.rows was.now.rows touched.old }
+    ensures tells { OnOk result (TellsNew (under was.now.columns was.now.plan) (under now.now.columns now.now.plan) was.now.rows now.now.rows now.now.rows touched.new) }
     ensures ascending { OnOk result (IsStrictlySortedBy key_order (keys_of touched.new)) }
 {
-    let count = now.len();
+    let count = now.rows.len();
     for i in 0..count {
-        note_new(alloc, first, last, was, now, count - 1 - i, touched)?;
+        note_new(alloc, was, now, count - 1 - i, touched)?;
     }
     let _count = touched.entries().len();
     Ok(())
 }
 
-/// Notes a key of the old rows, where what is shown of it differs.
+/// Notes a key of the old view, where what is shown of it differs.
 fn note_old(
     alloc: Global,
-    first: &[HeaderColumn],
-    last: &[HeaderColumn],
-    was: &LiveList<Row>,
-    now: &LiveList<Row>,
+    was: &FlatLive,
+    now: &FlatLive,
     at: usize,
     touched: &mut TouchedKeys,
 ) -> Result<(), Memory>
-    requires within { at < length was.now }
-    requires tells { TellsOld first.now last.now was.now now.now (drop (at + 1) was.now) touched.old }
-    ensures { OnOk result (TellsOld first.now last.now was.now now.now (drop at was.now) touched.new) }
+    requires within { at < length was.now.rows }
+    requires tells { TellsOld (under was.now.columns was.now.plan) (under now.now.columns now.now.plan) was.now.rows now.now.rows (drop (at + 1) was.now.rows) touched.old }
+    ensures { OnOk result (TellsOld (under was.now.columns was.now.plan) (under now.now.columns now.now.plan) was.now.rows now.now.rows (drop at was.now.rows) touched.new) }
 {
-    let _count = was.len();
-    let Some(entry) = was.at(at) else {
+    let _count = was.rows.len();
+    let Some(entry) = was.rows.at(at) else {
         return Ok(());
     };
-    if stays(alloc, first, Some(entry), last, now.get(&entry.1.key))? {
+    let other = now.rows.get(&entry.1.key);
+    if stays(
+        alloc,
+        was.columns.as_slice(),
+        &was.plan,
+        Some(entry),
+        now.columns.as_slice(),
+        &now.plan,
+        other,
+    )? {
         return Ok(());
     }
     touched.add(entry.1.key.copy(alloc)?, Touch { was_shown: true })
 }
 
-/// Notes a key of the new rows, where it isn't among the old ones.
+/// Notes a key of the new view, where the old one doesn't have it.
 fn note_new(
     alloc: Global,
-    first: &[HeaderColumn],
-    last: &[HeaderColumn],
-    was: &LiveList<Row>,
-    now: &LiveList<Row>,
+    was: &FlatLive,
+    now: &FlatLive,
     at: usize,
     touched: &mut TouchedKeys,
 ) -> Result<(), Memory>
-    requires within { at < length now.now }
-    requires tells { TellsNew first.now last.now was.now now.now (drop (at + 1) now.now) touched.old }
-    ensures { OnOk result (TellsNew first.now last.now was.now now.now (drop at now.now) touched.new) }
+    requires within { at < length now.now.rows }
+    requires tells { TellsNew (under was.now.columns was.now.plan) (under now.now.columns now.now.plan) was.now.rows now.now.rows (drop (at + 1) now.now.rows) touched.old }
+    ensures { OnOk result (TellsNew (under was.now.columns was.now.plan) (under now.now.columns now.now.plan) was.now.rows now.now.rows (drop at now.now.rows) touched.new) }
 {
-    let _count = now.len();
-    let Some(entry) = now.at(at) else {
+    let _count = now.rows.len();
+    let Some(entry) = now.rows.at(at) else {
         return Ok(());
     };
-    if was.get(&entry.1.key).is_some() {
+    if was.rows.get(&entry.1.key).is_some() {
         return Ok(());
     }
     touched.add(entry.1.key.copy(alloc)?, Touch { was_shown: false })

@@ -1,14 +1,16 @@
 ghost use Rattle.std.specs.Prelude.{◌≡◌, ◌-◌, IfOk, drop, map, take};
+ghost use Rattle.view_columns.specs.Headers.{under};
 ghost use Rattle.flat_live.specs.Rows.{as_placed, shown_row};
 
 use crate::building::build;
 use crate::changes::settle_all;
 use crate::comparing::{compare_new, compare_old};
+use crate::header::renew_header;
+use crate::rows::FlatRows;
 use crate::showing::{place_row, show_row};
-use cell_core::{Copies, Listed, Memory, Row, Steps};
+use cell_core::{Column, Copies, Listed, Memory, Steps};
 use delta_core::{ShownNow, Touched};
 use flat_show::PlacedRows;
-use live_list::LiveList;
 use plan_types::Plan;
 use row_batch::RowChange;
 use std::alloc::Global;
@@ -17,17 +19,21 @@ use table_core::Table;
 use view_kept::KeptView;
 use view_shape::OpenState;
 use view_spec::PlacedRow;
-use view_types::{Header, HeaderColumn, ShownRow, ShownRows, ViewKey, same_header};
+use view_types::{Header, ShownRow, ShownRows, ViewKey, same_header};
 
-/// A flat view without splits that is kept from step to step by the changes.
+/// A flat view that is kept from step to step by the changes.
+///
+/// It has a copy of the table's columns, whose names are in the texts under which values are shown.
 #[derive(Drop)]
 pub struct FlatLive {
+    /// The columns of the table.
+    pub columns: Listed<Column>,
     /// The plan that it is a view by.
     pub plan: Plan,
-    /// The text and type of each shown column.
+    /// The text and type of each shown column under each split path.
     pub header: Header,
-    /// The cells of the shown columns of each kept row.
-    pub rows: LiveList<Row>,
+    /// The kept rows, each with its split cells and the cells of the shown columns.
+    pub rows: FlatRows,
 }
 
 impl ShownNow for FlatLive {
@@ -42,7 +48,7 @@ impl ShownNow for FlatLive {
 
     fn row(&self, alloc: Global, key: &ViewKey) -> Result<Option<ShownRow>, Memory> {
         match self.rows.get(key) {
-            Some(entry) => Ok(Some(show_row(alloc, self.header.as_slice(), entry)?)),
+            Some(entry) => Ok(Some(show_row(alloc, self.columns.as_slice(), &self.plan, entry)?)),
             None => Ok(None),
         }
     }
@@ -66,10 +72,10 @@ impl FlatLive {
 
     /// The rows at their places, in the order in which they are shown. Want of memory is the only refusal.
     pub fn placed_rows(&self, alloc: Global) -> Result<PlacedRows, Memory>
-        ensures { IfOk result (λ rows. rows ≡ map (as_placed self.now.header) self.now.rows) }
+        ensures { IfOk result (λ rows. rows ≡ map (as_placed (under self.now.columns self.now.plan)) self.now.rows) }
     {
         let _count = self.rows.len();
-        let rows = all_placed(alloc, self.header.as_slice(), &self.rows)?;
+        let rows = all_placed(alloc, self.columns.as_slice(), &self.plan, &self.rows)?;
         Ok(PlacedRows::from_listed(Listed::from_vec(rows)))
     }
 
@@ -78,7 +84,14 @@ impl FlatLive {
         ensures { IfOk result (λ rows. rows ≡ take (to - from) (drop from (flat_shown self.now).rows)) }
     {
         let _count = self.rows.len();
-        let rows = rows_between(alloc, self.header.as_slice(), &self.rows, from, to)?;
+        let rows = rows_between(
+            alloc,
+            self.columns.as_slice(),
+            &self.plan,
+            &self.rows,
+            from,
+            to,
+        )?;
         Ok(ShownRows::from_listed(Listed::from_vec(rows)))
     }
 }
@@ -108,16 +121,24 @@ impl KeptView for FlatLive {
         touched: &mut Touched,
         _steps: &mut Steps<L>,
     ) -> Result<(), Memory> {
+        let _first = self.rows.len();
         settle_all(
             alloc,
+            self.columns.as_slice(),
             &self.plan,
-            self.header.as_slice(),
             changes,
             &mut self.rows,
-            &mut touched.keys,
+            touched,
         )?;
-        let _count = self.rows.len();
-        Ok(())
+        let _last = self.rows.len();
+        renew_header(
+            alloc,
+            self.columns.as_slice(),
+            &self.plan,
+            &self.rows,
+            &mut self.header,
+            &mut touched.header,
+        )
     }
 
     fn reshape<L: Ledger>(
@@ -131,24 +152,9 @@ impl KeptView for FlatLive {
     ) -> Result<FlatLive, Memory> {
         let _size = table.len();
         let other = build(alloc, plan, table, steps)?;
-        let (first, last) = (self.header.as_slice(), other.header.as_slice());
-        compare_old(
-            alloc,
-            first,
-            last,
-            &self.rows,
-            &other.rows,
-            &mut touched.keys,
-        )?;
-        compare_new(
-            alloc,
-            first,
-            last,
-            &self.rows,
-            &other.rows,
-            &mut touched.keys,
-        )?;
-        touched.header = !same_header(first, last);
+        compare_old(alloc, self, &other, &mut touched.keys)?;
+        compare_new(alloc, self, &other, &mut touched.keys)?;
+        touched.header = !same_header(self.header.as_slice(), other.header.as_slice());
         Ok(other)
     }
 
@@ -158,17 +164,18 @@ impl KeptView for FlatLive {
 /// The rows at positions from `from` up to and without `to`, as they are shown.
 fn rows_between(
     alloc: Global,
-    header: &[HeaderColumn],
-    rows: &LiveList<Row>,
+    columns: &[Column],
+    plan: &Plan,
+    rows: &FlatRows,
     from: u64,
     to: u64,
 ) -> Result<Vec<ShownRow>, Memory>
-    ensures { IfOk result (λ copies. copies.items ≡ take (to - from) (drop from (map (shown_row header.now) rows.now))) }
+    ensures { IfOk result (λ copies. copies.items ≡ take (to - from) (drop from (map (shown_row (under columns.now plan.now)) rows.now))) }
 {
     let part = rows.window(from as usize, to as usize)?;
     let mut copies = Vec::with_capacity(alloc, part.len())?;
     for entry in &part {
-        copies.push(show_row(alloc, header, *entry)?)?;
+        copies.push(show_row(alloc, columns, plan, *entry)?)?;
     }
     Ok(copies)
 }
@@ -176,15 +183,16 @@ fn rows_between(
 /// All rows at their places, as they are shown.
 fn all_placed(
     alloc: Global,
-    header: &[HeaderColumn],
-    rows: &LiveList<Row>,
+    columns: &[Column],
+    plan: &Plan,
+    rows: &FlatRows,
 ) -> Result<Vec<PlacedRow>, Memory>
-    ensures { IfOk result (λ copies. copies.items ≡ map (as_placed header.now) rows.now) }
+    ensures { IfOk result (λ copies. copies.items ≡ map (as_placed (under columns.now plan.now)) rows.now) }
 {
     let all = rows.window(0, rows.len())?;
     let mut copies = Vec::with_capacity(alloc, all.len())?;
     for entry in &all {
-        copies.push(place_row(alloc, header, *entry)?)?;
+        copies.push(place_row(alloc, columns, plan, *entry)?)?;
     }
     Ok(copies)
 }

@@ -1,6 +1,4 @@
 pub mod CellKinds
 pub mod KeptRows
-pub mod LevelSteps
-pub mod PathLists
+pub mod MetGroups
 pub mod ShownEntries
-pub mod ShownGroups

@@ -34,7 +34,14 @@ use Rattle.view_spec.proofs.Sorting.{All-insert_by, IsPermutation-sorted_by, asc
 use Rattle.view_spec.proofs.SplitLaws.{same_members}
 use Rattle.view_spec.proofs.ViewLaws.{IsDistinct-map, by_place-total, paths_ascend}
 use Rattle.flat_show.specs.Entries.{entry_of}
-use Rattle.group_show.specs.Levels.{AreEntries, put_entry}
+use Rattle.group_show.specs.Entries.{put_entry}
+
+-- a map has the rows of all shown groups
+pub record AreEntries (columns : List Column) (plan : Plan) (opening : Opening) (rows : List Pair) (entries : List (List Rank × ShownRow)) : Type 0 where
+  pub paths : List (List Cell)
+  pub entries_are : entries ≡ fold put_entry [] (map (placed_group columns plan opening rows) paths)
+  pub each : (q : List Cell) → list_any (same_path q) paths ≡ (is_visible opening q && is_there plan rows q)
+  pub distinct : IsDistinct same_path paths
 
 -- ---- rows that were put at their places
 

@@ -1,19 +1,20 @@
-ghost use Rattle.std.specs.Prelude.{◌≡◌, IfOk, map};
+ghost use Rattle.std.specs.Prelude.{◌≡◌, IfOk};
 ghost use Rattle.view_kept.specs.Steps.{side_of};
 ghost use Rattle.view_spec.specs.Views.{placed, view};
 ghost use Rattle.group_show.specs.Plans.{IsGroupedPlan};
 
 use crate::kept::kept_tree;
-use crate::walk::{ByPlace, open_rows};
+use crate::placing::sorted;
 use cell_core::{Listed, Memory, Steps};
 use flat_show::PlacedRows;
+use group_walk::{ToldPaths, walk};
+use live_list::LiveList;
 use plan_types::Plan;
-use std::alloc::{AllocError, Global};
+use std::alloc::Global;
 use std::sync::ledger::Ledger;
 use table_core::Table;
 use view_columns::{header_of, split_columns};
 use view_shape::OpenState;
-use view_spec::PlacedRow;
 use view_types::Header;
 
 /// What a view with groups shows, with the places of its rows.
@@ -44,20 +45,13 @@ pub fn show_groups<L: Ledger>(
     let tree = kept_tree(alloc, plan, table, steps)?;
     let splits = tree.splits(alloc)?;
     let columns = split_columns(alloc, table.schema().columns(), plan, splits)?;
-    let by_place = open_rows(alloc, plan, opening, &columns, &tree, steps)?;
-    let rows = collected(alloc, by_place)?;
+    // No group stood anywhere before, so the walk meets all that are shown.
+    let told = ToldPaths::new(alloc);
+    let was = LiveList::<()>::new(alloc);
+    let met = walk(alloc, plan, opening, &columns, &tree, &told, &was, steps)?;
+    let rows = sorted(alloc, met)?;
     Ok(PlacedGroups {
         header: header_of(alloc, &columns)?,
         rows: PlacedRows::from_listed(Listed::from_vec(rows)),
     })
-}
-
-/// The rows at their places, as a list.
-fn collected(alloc: Global, by_place: ByPlace) -> Result<Vec<PlacedRow>, AllocError>
-    ensures { IfOk result (λ rows. rows.items ≡ map (λ e. record { place = e.0; row = e.1 }) by_place.entries) }
-{
-    by_place
-        .into_iter()
-        .map(|(place, row)| PlacedRow { place, row })
-        .collect(alloc)
 }

@@ -14,4 +14,4 @@ mod list;
 mod place;
 
 pub use list::{LiveList, LiveRow};
-pub use place::RowPlace;
+pub use place::{RowPlace, place_copied};

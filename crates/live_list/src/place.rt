@@ -54,15 +54,22 @@ impl Placed for RowPlace {
 impl Copies for RowPlace {
     /// An equal one, with no room to spare.
     fn copy(&self, alloc: Global) -> Result<RowPlace, Memory> {
-        let ranks = self.place.as_slice();
-        let mut copy = Vec::with_capacity(alloc, ranks.len())?;
-        for rank in ranks {
-            copy.push(copied(alloc, rank)?)?;
-        }
         Ok(RowPlace {
-            place: Listed::from_vec(copy),
+            place: place_copied(alloc, &self.place)?,
         })
     }
+}
+
+/// An equal place, with no room to spare. Want of memory is the only refusal.
+pub fn place_copied(alloc: Global, place: &Place) -> Result<Place, Memory>
+    ensures { IfOk result (λ copy. copy ≡ place.now) }
+{
+    let ranks = place.as_slice();
+    let mut copy = Vec::with_capacity(alloc, ranks.len())?;
+    for rank in ranks {
+        copy.push(copied(alloc, rank)?)?;
+    }
+    Ok(Listed::from_vec(copy))
 }
 
 fn copied(alloc: Global, rank: &Rank) -> Result<Rank, Memory>

@@ -4,6 +4,7 @@ use Rattle.std.specs.Prelude.{not}
 use Rattle.plain_data.specs.Sorting.{sorted_by}
 use Rattle.cell_core.specs.declared.schema.Column.{Column}
 use Rattle.row_batch.specs.declared.batch.Pair.{Pair}
+use Rattle.row_batch.proofs.Lookups.{same_from_permutation}
 use Rattle.row_batch.proofs.Steps.{distinct_reordered}
 use Rattle.plan_types.specs.declared.plan.Plan.{Plan}
 use Rattle.table_core.specs.Tables.{TableData}
@@ -20,9 +21,12 @@ use Rattle.view_spec.specs.Views.{Side, by_place, placed, placed_group, placed_r
 use Rattle.view_spec.proofs.LiveLaws.{placed-IsPermutation, view-IsPermutation}
 use Rattle.view_spec.proofs.TouchLaws.{touched_keys-itself}
 use Rattle.view_kept.specs.Steps.{IsOfTable, side_of, touched_between}
+use Rattle.view_columns.specs.Headers.{under}
 use Rattle.flat_live.specs.Flat.{StandsFlat}
-use Rattle.flat_live.specs.Plans.{IsLivePlan}
+use Rattle.flat_live.specs.Rows.{as_placed}
+use Rattle.flat_show.specs.Plans.{IsFlatPlan}
 use Rattle.flat_live.specs.declared.live.FlatLive.{FlatLive}
+use Rattle.flat_live.proofs.Stands.{kept_reordered}
 
 abbrev side_by : List Column → Plan → Opening → List Pair → Side
 side_by columns plan opening pairs = record { columns = columns; plan = plan; opening = opening; pairs = pairs }
@@ -46,16 +50,18 @@ flat_header s opening t of =
 
 pub flat_stands : (v : FlatLive) (s : Side) (opening : Opening) (t : TableData) → StandsFlat v s → IsOfTable s t → StandsFlat v (side_of s.plan opening t)
 flat_stands v s opening t h of = record {
+  columns = h.columns ∙ sym of.columns;
   plan = h.plan;
-  fits = subst (λ cs. IsLivePlan cs s.plan) (sym of.columns) h.fits;
+  fits = subst (λ cs. IsFlatPlan cs s.plan) (sym of.columns) h.fits;
   header = h.header ∙ flat_header s opening t of;
-  rows = h.rows ∙ flat_placed s opening t h.fits.flat.flat of;
+  kept = kept_reordered s.plan s.pairs t.store.pairs v.rows (same_from_permutation s.pairs t.store.pairs of.keys (distinct_reordered s.pairs t.store.pairs of.rows of.keys) of.rows) h.kept;
+  rows = ap (λ cs. map (as_placed (under cs s.plan)) v.rows) of.columns ∙ h.rows ∙ flat_placed s opening t h.fits.flat of;
 }
 
 -- so another opening touches nothing
 pub flat_keys : (v : FlatLive) (s : Side) (opening : Opening) (t : TableData) → StandsFlat v s → IsOfTable s t → [] ≡ touched_between s (side_of s.plan opening t)
 flat_keys v s opening t h of =
-    sym (ap (λ ps. marked (view s).rows (touched_keys (placed s) ps)) (sym (flat_placed s opening t h.fits.flat.flat of)) ∙ ap (marked (view s).rows) (touched_keys-itself (placed s)))
+    sym (ap (λ ps. marked (view s).rows (touched_keys (placed s) ps)) (sym (flat_placed s opening t h.fits.flat of)) ∙ ap (marked (view s).rows) (touched_keys-itself (placed s)))
 
 pub flat_head : (s : Side) (opening : Opening) (t : TableData) → IsOfTable s t → head_touched s (side_of s.plan opening t) ≡ head_touched s s
 flat_head s opening t of = ap (λ h. not (same_header (view s).header h)) (sym (flat_header s opening t of))

@@ -1,8 +1,8 @@
 ghost use Rattle.std.specs.Prelude.{◌≡◌, IfOk};
 ghost use Rattle.view_kept.specs.Steps.{side_of};
+ghost use Rattle.view_spec.specs.Columns.{is_flat};
 ghost use Rattle.plain_kept.specs.Plans.{IsViewPlan};
 ghost use Rattle.live_rows.specs.Live.{StandsLive};
-ghost use Rattle.live_rows.specs.Plans.{is_live};
 
 use crate::live::LiveRows;
 use cell_core::{Memory, Steps};
@@ -25,7 +25,7 @@ pub fn build<L: Ledger>(
     requires { IsViewPlan table.now.schema.columns plan }
     ensures { IfOk result (λ rows. StandsLive rows (side_of plan opening.now table.now)) }
 {
-    if is_live(&plan) {
+    if is_flat(&plan) {
         Ok(LiveRows::Flat(flat_live::build(alloc, plan, table, steps)?))
     } else {
         let view = plain_kept::build(alloc, plan, opening, table, steps)?;
@@ -33,9 +33,9 @@ pub fn build<L: Ledger>(
     }
 }
 
-/// Whether a view by a plan is kept by the changes: whether it has neither groups nor splits.
-pub(crate) fn is_live(plan: &Plan) -> bool
-    ensures { result ≡ is_live plan.now }
+/// Whether a view by a plan shows rows: whether it has no groups.
+pub(crate) fn is_flat(plan: &Plan) -> bool
+    ensures { result ≡ is_flat plan.now }
 {
-    plan.group_by.as_slice().is_empty() && plan.split_by.as_slice().is_empty()
+    plan.group_by.as_slice().is_empty()
 }

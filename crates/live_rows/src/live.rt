@@ -12,8 +12,8 @@ use view_kept::KeptView;
 use view_shape::OpenState;
 use view_types::{Header, ShownRow, ShownRows, ViewKey};
 
-/// The rows of a view, kept in the way that its plan allows: those of a flat view without splits by the changes of the
-/// table's rows, those of any other computed anew at each step.
+/// The rows of a view, kept in the way that its plan allows: those of a flat view by the changes of the table's rows,
+/// those of a view with groups computed anew at each step.
 #[derive(Drop)]
 pub enum LiveRows {
     Flat(FlatLive),

@@ -2,13 +2,14 @@ ghost use Rattle.std.specs.Prelude.{◌≡◌, [], false, map, IfOk, OnOk};
 ghost use Rattle.view_kept.specs.Steps.{IsOfTable, side_of, touched_between};
 ghost use Rattle.view_spec.specs.Touching.{head_touched};
 ghost use Rattle.view_spec.specs.Views.{Side};
+ghost use Rattle.view_columns.specs.Headers.{under};
 ghost use Rattle.flat_live.specs.Flat.{StandsFlat};
 ghost use Rattle.flat_live.specs.Rows.{as_placed};
 ghost use Rattle.plain_kept.specs.Plain.{StandsPlain};
 ghost use Rattle.plain_kept.specs.Plans.{IsViewPlan};
 ghost use Rattle.live_rows.specs.Live.{StandsLive};
 
-use crate::building::is_live;
+use crate::building::is_flat;
 use crate::live::LiveRows;
 use cell_core::{Copies, Memory, Steps};
 use delta_core::Touched;
@@ -38,7 +39,7 @@ pub(crate) fn after_flat<L: Ledger>(
     ensures keys { (s : Side) → StandsFlat view.now s → IsOfTable s table.now → OnOk result (touched_now.new.keys ≡ touched_between s (side_of plan opening.now table.now)) }
     ensures header { (s : Side) → StandsFlat view.now s → IsOfTable s table.now → OnOk result (touched_now.new.header ≡ head_touched s (side_of plan opening.now table.now)) }
 {
-    if is_live(&plan) {
+    if is_flat(&plan) {
         let other = view.reshape(alloc, plan, opening, table, touched_now, steps)?;
         return Ok(LiveRows::Flat(other));
     }
@@ -65,7 +66,7 @@ pub(crate) fn after_plain<L: Ledger>(
     ensures keys { (s : Side) → StandsPlain view.now s → IsOfTable s table.now → OnOk result (touched_now.new.keys ≡ touched_between s (side_of plan opening.now table.now)) }
     ensures header { (s : Side) → StandsPlain view.now s → IsOfTable s table.now → OnOk result (touched_now.new.header ≡ head_touched s (side_of plan opening.now table.now)) }
 {
-    if !is_live(&plan) {
+    if !is_flat(&plan) {
         let other = view.reshape(alloc, plan, opening, table, touched_now, steps)?;
         return Ok(LiveRows::Plain(other));
     }
@@ -78,7 +79,7 @@ pub(crate) fn after_plain<L: Ledger>(
 /// What a view that is kept by the changes shows, asked by key.
 fn keyed_of(alloc: Global, view: &FlatLive) -> Result<KeyedView, Memory>
     ensures header { IfOk result (λ keyed. keyed.header ≡ view.now.header) }
-    ensures rows { IfOk result (λ keyed. keyed.rows ≡ map (as_placed view.now.header) view.now.rows) }
+    ensures rows { IfOk result (λ keyed. keyed.rows ≡ map (as_placed (under view.now.columns view.now.plan)) view.now.rows) }
 {
     let header = view.header.copy(alloc)?;
     let rows = KeyedRows::of(alloc, view.placed_rows(alloc)?)?;

@@ -1,4 +1,4 @@
-use Rattle.std.proofs.Common.{◌≡◌, List, map, sym, ap, ◌∙◌, subst}
+use Rattle.std.proofs.Common.{◌≡◌, List, [], fold, map, sym, ap, ◌∙◌, subst}
 use Rattle.cell_core.specs.declared.cell.Cell.{Cell}
 use Rattle.cell_core.specs.declared.schema.Column.{Column}
 use Rattle.row_batch.specs.declared.batch.Pair.{Pair}
@@ -12,7 +12,9 @@ use Rattle.view_spec.proofs.LiveLaws.{shown_rows}
 use Rattle.view_columns.specs.Headers.{each_under}
 use Rattle.view_columns.specs.declared.headers.SplitColumns.{SplitColumns}
 use Rattle.view_kept.specs.Steps.{side_of}
-use Rattle.group_show.specs.Levels.{IsShape}
+use Rattle.group_walk.specs.Levels.{IsShape}
+use Rattle.group_show.specs.Entries.{put_entry}
+use Rattle.group_show.proofs.MetGroups.{met_entries}
 use Rattle.group_show.proofs.ShownEntries.{entries_placed}
 use Rattle.group_show.proofs.show.show_groups.Goals as goal
 
@@ -35,7 +37,8 @@ from_listed-requires g c =
       tree_is = c.in_ok-tree.ensures;
     } in
     let rows : c.from_vec.result ≡ placed s =
-    c.from_vec.ensures ∙ c.in_ok-rows.ensures ∙ entries_placed s c.in_ok-by_place.by_place.entries c.requires.grouped (c.in_ok-by_place.ensures columns kept_rows shape) in
+    c.from_vec.ensures ∙ c.in_ok-rows.ensures ∙ entries_placed s (fold put_entry [] c.in_ok-met.met.items) c.requires.grouped
+    (met_entries columns plan s.opening kept_rows c.new-told.result c.new-was.result c.in_ok-met.met.items c.new-told.ensures c.new-was.ensures (c.in_ok-met.ensures.met columns kept_rows shape)) in
     subst (λ (rs : List PlacedRow). AreShownRows (map (λ (p : PlacedRow). p.row) rs)) (sym rows) (shown_rows s c.len-count.ensures.table.distinct)
 
 pub returns-clause-header : goal.returns-clause-header
@@ -63,4 +66,5 @@ returns-clause-rows g c =
       tree_is = c.in_ok-tree.ensures;
     } in
     c.from_listed.ensures ∙ c.from_vec.ensures ∙ c.in_ok-rows.ensures
-    ∙ entries_placed s c.in_ok-by_place.by_place.entries c.requires.grouped (c.in_ok-by_place.ensures columns kept_rows shape)
+    ∙ entries_placed s (fold put_entry [] c.in_ok-met.met.items) c.requires.grouped
+    (met_entries columns plan s.opening kept_rows c.new-told.result c.new-was.result c.in_ok-met.met.items c.new-told.ensures c.new-was.ensures (c.in_ok-met.ensures.met columns kept_rows shape))

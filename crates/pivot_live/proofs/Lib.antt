@@ -1,0 +1,15 @@
+pub mod Paths
+pub mod Sides
+pub mod MetGroups
+pub mod AfterSteps
+pub mod ToldKeys
+pub mod SettledRows
+pub mod StillRows
+pub mod Differences
+pub mod Beginnings
+pub mod VisitedGroups
+pub mod Bounds
+pub mod Counts
+pub mod BuiltRows
+pub mod KnownPlaces
+pub mod AffectedKeys

@@ -1,0 +1,3 @@
+pub mod Affected
+pub mod Stepping
+pub mod Laws
